@@ -1,0 +1,5 @@
+pub mod Choice
+pub mod Test
+pub mod First
+pub mod Lists
+pub mod Table
