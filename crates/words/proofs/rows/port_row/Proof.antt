@@ -1,0 +1,10 @@
+-- `words::rows::port_row` meets its contract. Assumes nothing.
+use borrow.Author.Needs.{needs}
+use Rattle.words.proofs.rows.port_row.Statement.{statement}
+use Rattle.words.proofs.rows.port_row.Tie as tie
+
+returns : tie.Need-returns
+returns c = cc
+
+pub port-row-spec : {M : Type 1} → statement M
+port-row-spec = tie.close (tie.spec (λ c κs. search needs) (λ c κs. search needs) returns)

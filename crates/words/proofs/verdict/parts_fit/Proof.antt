@@ -1,0 +1,14 @@
+-- `words::verdict::parts_fit` meets its contract. Assumes nothing.
+use Rattle.words.specs.Words.{fits}
+use borrow.Author.Needs.{needs}
+use Rattle.words.proofs.verdict.parts_fit.Statement.{statement}
+use Rattle.words.proofs.verdict.parts_fit.Tie as tie
+
+returns : tie.Need-returns
+unfolding fits
+returns c = rw (c .before .before .before .before .before .before .before .before .before .before .before .before .before .before .limit-of .ensures, c .before .before .before .before .before .before .before .before .before .before .before .before .before .before .before .flag-digit .ensures, c .before .before .before .before .before .before .before .before .before .before .before .before .limit-of2 .ensures, c .before .before .before .before .before .before .before .before .before .before .before .before .before .digit .ensures, c .before .before .before .before .before .before .before .before .before .before .limit-of3 .ensures, c .before .before .before .before .before .before .before .before .before .before .before .digit2 .ensures, c .before .before .before .before .before .before .before .before .limit-of4 .ensures, c .before .before .before .before .before .before .before .before .before .digit3 .ensures, c .before .before .before .before .before .before .limit-of5 .ensures, c .before .before .before .before .before .count-fits .ensures, c .before .before .before .before .before .before .before .digit4 .ensures)
+
+pub parts-fit-spec : {M : Type 1} → statement M
+parts-fit-spec =
+    tie.close
+    (tie.spec (λ c κs. search needs) (λ c κs. search needs) (λ c κs. search needs) (λ c κs. search needs) (λ c κs. search needs) (λ c κs. search needs) (λ c κs. search needs) (λ c κs. search needs) (λ c κs. search needs) (λ c κs. search needs) (λ c κs. search needs) returns)

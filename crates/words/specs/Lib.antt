@@ -1,0 +1,11 @@
+pub mod Configs
+pub mod Parts
+pub mod Kinds
+pub mod Rows
+pub mod Numbers
+pub mod Classes
+pub mod Words
+pub mod Answers
+pub mod Packed
+pub mod Facts
+pub mod Claims

@@ -1,0 +1,144 @@
+// Reading a word: refusals 1, 5, 6, 7, or the instruction.
+ghost use mathlib.Core.Path.{_≡_};
+ghost use Prim.Native.Nat.{_-_, _%_, _<_};
+ghost use Rattle.words.specs.Answers.{readingOf, judged};
+ghost use Rattle.words.specs.Claims.{Reads};
+ghost use Rattle.words.specs.Packed.{unpack, readLent};
+ghost use Rattle.words.specs.Words.{flagIn, fieldsIn, spread, readLawful};
+use crate::Config;
+use crate::Fields;
+use crate::Instruction;
+use crate::Reading;
+use crate::Refusal;
+use crate::numbers;
+use crate::rows::base_at;
+use crate::rows::class_at;
+use crate::rows::digit;
+use crate::rows::flag_digit;
+use crate::rows::packed_at;
+use crate::rows::row_of;
+use crate::tables::base_table;
+use crate::tables::class_table;
+use crate::tables::row_table;
+use crate::verdict::available_in;
+use crate::verdict::parts_fit;
+
+// a less b, or 0 where b is the larger.
+fn less(a: u32, b: u32) -> u32
+    ensures { λ r. ⌜ r ≡ a - b ⌝ }
+{
+    if b <= a { a - b } else { 0 }
+}
+
+// Bit 26 of key k, where the row has a flag.
+fn flag_in(p: u64, k: u32) -> u32
+    ensures { λ r. ⌜ (r ≡ flagIn (p % 16) k) × (r < 2) ⌝ }
+{
+    let holds = flag_digit(p);
+    if holds == 1 { k / 8 % 2 } else { 0 }
+}
+
+// The fields of a word of row n: k is bits 31-23, f bits 22-0.
+fn fields_in(n: u32, base: u32, p: u64, k: u32, f: u32) -> Fields
+    ensures { λ r. ⌜ r ≡ fieldsIn n (unpack base p) k f ⌝ }
+{
+    let rest = less(f, base % 8388608);
+    let flag = flag_in(p, k);
+    let number = less(k, base / 8388608 + 8 * flag);
+    let holds = digit(p, 0x10000);
+    if holds == 0 {
+        return Fields {
+            row: n,
+            flag,
+            number,
+            upper: rest / 65536,
+            lower: rest % 65536,
+            value: 0,
+        };
+    }
+    if holds == 10 {
+        return Fields {
+            row: n,
+            flag,
+            number,
+            upper: 0,
+            lower: 0,
+            value: rest,
+        };
+    }
+    Fields {
+        row: n,
+        flag,
+        number,
+        upper: rest / 65536,
+        lower: 0,
+        value: rest % 65536,
+    }
+}
+
+// The instruction's parts, from the word's fields.
+fn spread_fields(s: Fields) -> Instruction
+    ensures { λ r. ⌜ r ≡ spread s ⌝ }
+{
+    Instruction {
+        row: s.row,
+        flag: s.flag,
+        destination: s.upper,
+        source: s.lower,
+        number: s.number,
+        value: s.value,
+    }
+}
+
+// The answer where a row is known, its option there, and its parts in range.
+fn judge(known: bool, there: bool, fit: bool, i: Instruction) -> Reading
+    ensures { λ r. ⌜ readingOf r ≡ judged known there fit i ⌝ }
+{
+    if !known {
+        return Reading::Refused(Refusal::NoRow);
+    }
+    if !there {
+        return Reading::Refused(Refusal::Unavailable);
+    }
+    if !fit {
+        return Reading::Refused(Refusal::OutOfRange);
+    }
+    Reading::Decoded(i)
+}
+
+// Reading by lent tables, without a look at refusal 1: for callers that hold the tables and have validated the configuration. Whatever the tables
+// hold, the answer is `readLent` of them; with the tables of this crate that is `readLawful` (proofs/Lent.antt, `lent`).
+pub fn read_word_lent(classes: &[u8], bases: &[u32], packs: &[u64], c: Config, w: u32) -> Reading
+    ensures { λ r. ⌜ readingOf r ≡ readLent (now (classes .entry)) (now (bases .entry)) (now (packs .entry)) c w ⌝ }
+{
+    let k = w / 8388608;
+    let f = w % 8388608;
+    let n = row_of(class_at(classes, k), f);
+    let base = base_at(bases, n);
+    let p = packed_at(packs, n);
+    let i = spread_fields(fields_in(n, base, p, k, f));
+    let there = available_in(c, digit(p, 0x100000));
+    let fit = parts_fit(c, p, i);
+    judge(n < numbers::ROW_COUNT, there, fit, i)
+}
+
+// Reading without a look at refusal 1, for callers that have validated the configuration.
+pub fn read_word_lawful(c: Config, w: u32) -> Reading
+    ensures { λ r. ⌜ readingOf r ≡ readLawful c w ⌝ }
+{
+    let classes = class_table();
+    let bases = base_table();
+    let packs = row_table();
+    read_word_lent(&classes, &bases, &packs, c, w)
+}
+
+// What a word says: the instruction, or the refusal. Where it is an instruction, writing that gives the word.
+pub fn read_word(c: Config, w: u32) -> Reading
+    ensures { λ r. ⌜ Reads c w r ⌝ }
+{
+    if c.lawful() {
+        read_word_lawful(c, w)
+    } else {
+        Reading::Refused(Refusal::Unlawful)
+    }
+}

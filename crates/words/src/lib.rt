@@ -1,0 +1,127 @@
+// Instruction words of the YAM core: configuration, rows, reading and writing a word.
+
+ghost use mathlib.Core.Path.{_≡_};
+ghost use Rattle.words.specs.Answers.{refusalNumber};
+
+mod classes;
+mod columns;
+pub mod configuration;
+pub mod decode;
+pub mod encode;
+pub mod kinds;
+pub mod meaning;
+pub mod numbers;
+mod rows;
+pub mod tables;
+mod verdict;
+
+pub use decode::read_word;
+pub use decode::read_word_lawful;
+pub use decode::read_word_lent;
+pub use encode::write_word;
+pub use meaning::facts_in;
+pub use meaning::facts_lent;
+pub use meaning::row_facts;
+pub use tables::base_table;
+pub use tables::class_table;
+pub use tables::row_table;
+
+// A configuration of the core: the manual's generics under their names, in the order of document 01.
+pub struct Config {
+    pub imwidth: u32,
+    pub imsize: u32,
+    pub regwidth: u32,
+    pub regsize: u32,
+    pub rmsize: u32,
+    pub pcstack: u32,
+    pub dmsize: u32,
+    pub dmpipe: u32,
+    pub alulevel: u32,
+    pub alumult: u32,
+    pub aluspr: u32,
+    pub iopif: u32,
+    pub ioprmw: u32,
+    pub yamclk: u32,
+    pub yamsreg3: u32,
+    pub alu3op: u32,
+    pub irqif: u32,
+    pub copmsize: u32,
+    pub yamdbg: u32,
+}
+
+// An instruction's parts, named after the manual's main frames (5.17.1). `flag` is bit 26 of an ALU word as it stands: 0 updates the flags.
+// `destination` stands in bits 22-16 (also JSRWP's unit, the source of MOV &a,%s, the register of JMP @), `source` in 6-0, `number` is the byte
+// number, `value` the immediate, count, data address, target or JSRWP address. A part that the row does not use is zero.
+pub struct Instruction {
+    pub row: u32,
+    pub flag: u32,
+    pub destination: u32,
+    pub source: u32,
+    pub number: u32,
+    pub value: u32,
+}
+
+// The fields of a word by place: bit 26, the number in the low bits of 31-23, bits 22-16, the bits below them, and the value.
+pub struct Fields {
+    pub row: u32,
+    pub flag: u32,
+    pub number: u32,
+    pub upper: u32,
+    pub lower: u32,
+    pub value: u32,
+}
+
+// Document 01's numbers 1, 5, 6 and 7.
+pub enum Refusal {
+    Unlawful,
+    NoRow,
+    Unavailable,
+    OutOfRange,
+}
+
+impl Refusal {
+    // Document 01's number.
+    pub fn number(self) -> u32
+        ensures { λ r. ⌜ r ≡ refusalNumber self ⌝ }
+    {
+        match self {
+            Refusal::Unlawful => 1,
+            Refusal::NoRow => 5,
+            Refusal::Unavailable => 6,
+            Refusal::OutOfRange => 7,
+        }
+    }
+}
+
+pub enum Reading {
+    Decoded(Instruction),
+    Refused(Refusal),
+}
+
+pub enum Writing {
+    Encoded(u32),
+    Refused(Refusal),
+}
+
+// What rules, stops, cycles and text ask of an instruction (specs/Facts.antt).
+pub struct Facts {
+    pub kind: u32,
+    pub operation: u32,
+    pub form: u32,
+    pub condition: u32,
+    pub next: bool,
+    pub target: bool,
+    pub calls: bool,
+    pub returns: bool,
+    pub enters: bool,
+    pub leaves: bool,
+    pub reveals: bool,
+    pub input: bool,
+    pub output: bool,
+    pub load: bool,
+    pub store: bool,
+    pub indirect: bool,
+    pub tobank: bool,
+    pub frombank: bool,
+    pub barred: bool,
+}
