@@ -1,0 +1,12 @@
+pub mod Width
+pub mod Logic
+pub mod Sums
+pub mod Shifts
+pub mod Unary
+pub mod Bytes
+pub mod Multiply
+pub mod Immediates
+pub mod Alu
+pub mod Fits
+pub mod Lawful
+pub mod Means
