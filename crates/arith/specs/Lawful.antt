@@ -8,10 +8,11 @@ use native.Mathlib.Nat.{mod-eq-of-lt}
 use native.Mathlib.Omega.{arith}
 use Rattle.laws.specs.Choice.{pick}
 use Rattle.laws.specs.Test.{Member}
-use Rattle.arith.specs.Width.{bits}
+use Rattle.arith.specs.Width.{bits, Width, Words}
 use Rattle.arith.specs.Alu.{aluOf}
 use Rattle.arith.specs.Multiply.{mulOf}
 use Rattle.arith.specs.Immediates.{immediateOf}
+use Rattle.arith.specs.Fits.{bits-width}
 use Rattle.arith.specs.declared.Form.{Form}
 use Rattle.arith.specs.declared.Operation.{Operation}
 
@@ -24,6 +25,12 @@ unfolding bits pick
 bits-lawful w (inl e) = rw e
 bits-lawful w (inr (inl e)) = rw e
 bits-lawful w (inr (inr e)) = rw e
+
+pub width-lawful : (w : ℕ) → Member w widths → Width w
+width-lawful w h = rw (← bits-lawful w h) (bits-width w)
+
+pub words-lawful : (w d s : ℕ) → Member w widths → d < 2 ^ w → s < 2 ^ w → Words w d s
+words-lawful w d s h hd hs = record { width = width-lawful w h; left = hd; right = hs }
 
 pub alu-lawful : (w d s n : ℕ) (o : Operation) → Member w widths → d < 2 ^ w → s < 2 ^ w → n ≤ 1
     → aluOf (bits w) o (d % 2 ^ bits w) (s % 2 ^ bits w) (n % 2) ≡ aluOf w o d s n

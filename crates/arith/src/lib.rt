@@ -1,5 +1,5 @@
 // Word arithmetic of the YAM core, once over the word width W: every operation of ALU levels 0 to 2, MUL and the immediates.
-// A word of W bits is a number below 2^W; a flag is a number, 0 or 1. Manual 001, sections 4.4.2 and 5.1 to 5.4.
+// A word of W bits is a number below 2^W; a flag is a number, 0 or 1. Section numbers are the YAM manual's, 1.4.
 mod bytes;
 mod immediates;
 mod logic;
@@ -56,7 +56,7 @@ pub enum Form {
     Shifted,
 }
 
-// What the ALU does. TST, CMP and CMPS are And, Sub and Subs whose result nobody keeps; a byte operation holds its byte number.
+// What the ALU does. TST, CMP and CMPS are And, Sub and Subs whose result is not written; a byte operation holds its byte number.
 pub enum Operation {
     And,
     Or,

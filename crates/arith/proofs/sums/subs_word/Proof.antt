@@ -10,7 +10,7 @@ returns : tie.Need-returns
 unfolding subsOf
 returns c =
     let p = c .before .before .before .before .pre in
-    rw (c .word-of .ensures, c .before .flag .ensures, c .before .before .before .subtract .ensures, c .before .before .top-bit .ensures, raise-code _ _ (p .width .least) (p .left), raise-code _ _ (p .width .least) (p .right), sign-code _ _ _ p)
+    simp (c .word-of .ensures, c .before .flag .ensures, c .before .before .before .subtract .ensures, c .before .before .top-bit .ensures, raise-code _ _ (p .width .least) (p .left), raise-code _ _ (p .width .least) (p .right), sign-code _ _ _ p)
 
 pub subs-word-spec : {M : Type 1} → statement M
 subs-word-spec =
