@@ -1,0 +1,16 @@
+-- `arith::shifts::rotl_word` meets its contract: the parts do not overlap (`rotl-code`).
+-- Assumes nothing.
+use Rattle.arith.specs.Shifts.{rotlOf}
+use Rattle.arith.proofs.shifts.Laws.{rotl-code}
+use borrow.Author.Needs.{needs}
+use Rattle.arith.proofs.shifts.rotl_word.Statement.{statement}
+use Rattle.arith.proofs.shifts.rotl_word.Tie as tie
+
+returns : tie.Need-returns
+unfolding rotlOf
+returns c = rw (c .moved-left .ensures, c .before .truncate .ensures, rotl-code _ _ (c .before .before .pre))
+
+pub rotl-word-spec : {M : Type 1} → statement M
+rotl-word-spec =
+    tie.close
+    (tie.spec (λ c. search needs) (λ c κs. search needs) (λ c. search needs) (λ c. search needs) (λ c κs. search needs) returns)

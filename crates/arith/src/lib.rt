@@ -1,0 +1,133 @@
+// Word arithmetic of the YAM core, once over the word width W: every operation of ALU levels 0 to 2, MUL and the immediates.
+// A word of W bits is a number below 2^W; a flag is a number, 0 or 1. Section numbers are the YAM manual's, 1.4.
+mod bytes;
+mod immediates;
+mod logic;
+mod multiply;
+mod shifts;
+mod sums;
+mod unary;
+mod width;
+
+use bytes::bld_word;
+use bytes::blds_word;
+use bytes::bst_word;
+use immediates::extend;
+use logic::and_word;
+use logic::or_word;
+use logic::xor_word;
+use multiply::mul_word;
+use shifts::rotl_word;
+use shifts::rotr_word;
+use shifts::shl_word;
+use shifts::shr_word;
+use shifts::shra_word;
+use sums::add_word;
+use sums::sub_word;
+use sums::subs_word;
+use unary::abs_word;
+use unary::clz_word;
+use width::bits_of;
+use width::truncate;
+ghost use mathlib.Core.Path.{_≡_};
+ghost use Prim.Native.Nat.{ℕ, _%_, _^_};
+ghost use Rattle.arith.specs.Width.{bits};
+ghost use Rattle.arith.specs.Alu.{aluOf};
+ghost use Rattle.arith.specs.Multiply.{mulOf};
+ghost use Rattle.arith.specs.Immediates.{immediateOf};
+
+// A result and the flags that the instruction sets where its bit 26 is 0.
+pub struct Word {
+    pub value: u32,
+    pub z: u64,
+    pub n: u64,
+}
+
+// MUL's result, and what SPR7 takes.
+pub struct Product {
+    pub value: u32,
+    pub high: u32,
+}
+
+// The three forms of a 16-bit immediate: #, > and < in the manual's notation.
+pub enum Form {
+    Signed,
+    Unsigned,
+    Shifted,
+}
+
+// What the ALU does. TST, CMP and CMPS are And, Sub and Subs whose result is not written; a byte operation holds its byte number.
+pub enum Operation {
+    And,
+    Or,
+    Xor,
+    Add,
+    Addc,
+    Sub,
+    Subc,
+    Subs,
+    Shl,
+    Shr,
+    Shra,
+    Rotl,
+    Rotr,
+    Shl16,
+    Abs,
+    Clz,
+    Bst(u32),
+    Bld(u32),
+    Blds(u32),
+}
+
+// Every operation but MUL, of the destination d, the source s and the flag N before. For any numbers: a width that is neither
+// 8 nor 16 counts as 32, the operands are taken at the width, n modulo 2 and a byte number modulo 4.
+pub fn alu(width: u32, op: Operation, d: u32, s: u32, n: u64) -> Word
+    ensures { λ r. ⌜ r ≡ aluOf (bits width) op (d % 2 ^ bits width) (s % 2 ^ bits width) (n % 2) ⌝ }
+{
+    let w = bits_of(width);
+    let a = truncate(w, d);
+    let b = truncate(w, s);
+    let c = n % 2;
+    match op {
+        Operation::And => and_word(a, b, c),
+        Operation::Or => or_word(a, b, c),
+        Operation::Xor => xor_word(a, b, c),
+        Operation::Add => add_word(w, a, b, 0),
+        Operation::Addc => add_word(w, a, b, c),
+        Operation::Sub => sub_word(w, a, b, 0),
+        Operation::Subc => sub_word(w, a, b, c),
+        Operation::Subs => subs_word(w, a, b),
+        Operation::Shl => shl_word(w, a, b % 16),
+        Operation::Shr => shr_word(w, a, b % 16),
+        Operation::Shra => shra_word(w, a, b % 16),
+        Operation::Rotl => rotl_word(w, b),
+        Operation::Rotr => rotr_word(w, b),
+        Operation::Shl16 => shl_word(w, b, 16),
+        Operation::Abs => abs_word(w, b),
+        Operation::Clz => clz_word(w, b),
+        Operation::Bst(k) => bst_word(w, k % 4, a, b),
+        Operation::Bld(k) => bld_word(k % 4, b),
+        Operation::Blds(k) => blds_word(w, k % 4, b),
+    }
+}
+
+// MUL: it sets no flag.
+pub fn mul(width: u32, a: u32, b: u32) -> Product
+    ensures { λ r. ⌜ r ≡ mulOf (bits width) (a % 2 ^ bits width) (b % 2 ^ bits width) ⌝ }
+{
+    let w = bits_of(width);
+    mul_word(w, truncate(w, a), truncate(w, b))
+}
+
+// What an instruction's bits 15 to 0 stand for.
+pub fn immediate(width: u32, form: Form, v: u32) -> u32
+    ensures { λ r. ⌜ r ≡ immediateOf (bits width) form (v % 65536) ⌝ }
+{
+    let w = bits_of(width);
+    let x = v % 65536;
+    if w == 32 {
+        extend(form, x)
+    } else {
+        truncate(w, x)
+    }
+}
