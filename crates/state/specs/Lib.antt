@@ -1,0 +1,9 @@
+pub mod State
+pub mod Ranges
+pub mod Cores
+pub mod Operands
+pub mod Plans
+pub mod Stops
+pub mod Step
+pub mod Run
+pub mod Claims

@@ -1,0 +1,234 @@
+-- What an instruction changes, by its kind: document 01, 'One step'. Used where no stop is given.
+use Prim.Native.Nat.{ℕ, _+_, _-_, _*_, _/_, _%_}
+use mathlib.Core.List.{List, [], _∷_}
+use lib.Dec.{leb, eqb}
+use lib.ListN.{getD}
+use Rattle.laws.specs.Choice.{pick}
+use Rattle.words.specs.declared.Config.{Config}
+use Rattle.words.specs.declared.Instruction.{Instruction}
+use Rattle.words.specs.declared.Facts.{Facts}
+use Rattle.arith.specs.declared.Form.the-variants.{Signed}
+use Rattle.arith.specs.declared.Word.{Word}
+use Rattle.arith.specs.declared.Product.{Product}
+use Rattle.arith.specs.declared.Operation.{Operation}
+use Rattle.arith.specs.Width.{bits, one, half}
+use Rattle.arith.specs.Alu.{aluOf}
+use Rattle.arith.specs.Multiply.{mulOf}
+use Rattle.state.specs.declared.Core.{Core}
+use Rattle.state.specs.declared.Change.{Change}
+use Rattle.state.specs.State.{top}
+use Rattle.state.specs.Cores.{at, posting, next, flagged, indexed, multiplied, deep, masked, banked, taking, logging, none, write, change, moved, toRegister, toMemory, toStack, toLog}
+use Rattle.state.specs.Operands.{View, cell, register, dataAddress, constant, operand, operationOf, conditionMet, specialRegister}
+
+-- the ALU at width W, of words that are taken mod 2^W and N mod 2: registers of a record in its ranges are so already
+abbrev pub alu : Config → Operation → ℕ → ℕ → ℕ → Word
+alu c o d s n = aluOf (bits (c .regwidth)) o (d % top c) (s % top c) (n % 2)
+
+abbrev pub product : Config → ℕ → ℕ → Product
+product c a b = mulOf (bits (c .regwidth)) (a % top c) (b % top c)
+
+-- "MOVX: Z is RX = RY before RX advances; RX goes from REG_SIZE−1 to 0; N 0."
+unfoldable pub advanced : Config → Core → Core
+advanced c m = indexed m (pick (eqb (m .rx + 1) (c .regsize)) 0 (m .rx + 1)) (m .ry)
+
+-- "logs it with MSbit set"
+unfoldable pub withTopBit : Config → ℕ → ℕ
+withTopBit c x = pick (leb (half (bits (c .regwidth))) x) x (x + half (bits (c .regwidth)))
+
+-- "the new bank's %00 gets WP/16 in 31-26, SR in 25-20 (N bit 21, Z bit 20, others 0), IMask 19-16, PC+1 in 15-0"
+unfoldable pub contextOf : Core → ℕ
+contextOf m = 0x4000000 * (m .wp / 16) + 0x200000 * m .n + 0x100000 * m .z + 65536 * m .imask + (m .pc + 1)
+
+-- "Register targets are taken mod 2^23."
+abbrev pub registerTarget : ℕ → ℕ
+registerTarget x = x % 0x800000
+
+module _ (v : View) (i : Instruction) (f : Facts) where
+  -- the values of the destination and source registers
+  abbrev pub D : ℕ
+  D = register v (i .destination)
+
+  abbrev pub S : ℕ
+  S = register v (i .source)
+
+  -- the operand by its form
+  abbrev pub X : ℕ
+  X = operand (v .config) (f .form) S (i .value)
+
+  -- the core at the next address
+  abbrev pub M : Core
+  M = next (v .core)
+
+  abbrev pub result : Word
+  result = alu (v .config) (operationOf (f .operation) (i .number)) D X (v .core .n)
+
+  -- TST, CMP, CMPS "write no register"
+  unfoldable pub comparePlan : Change
+  comparePlan = moved (flagged M (i .flag) (result .z) (result .n))
+
+  -- TST to SUBC, shifts, level 1 and bytes: the result to %d
+  unfoldable pub computePlan : Change
+  computePlan = toRegister (flagged M (i .flag) (result .z) (result .n)) (cell v (i .destination)) (result .value)
+
+  -- "MUL: .. no flag; SPR7 takes product bits W+15 to W if W ≤ 16, else 0"
+  unfoldable pub multiplyPlan : Change
+  multiplyPlan = toRegister (multiplied M (product (v .config) D X .high)) (cell v (i .destination)) (product (v .config) D X .value)
+
+  -- "LDYX: RY from 22-16, RX from 6-0, Z if equal, N 0."
+  unfoldable pub loadIndexPlan : Change
+  loadIndexPlan =
+      moved (flagged (indexed M (i .source) (i .destination)) (i .flag) (one (eqb (i .source) (i .destination))) 0)
+
+  -- MOVX: flags before the advance
+  abbrev pub indexCore : Core
+  indexCore = flagged (advanced (v .config) M) (i .flag) (one (eqb (v .core .rx) (v .core .ry))) 0
+
+  -- MOVX to DM: the register that RX names, to the address in %d
+  unfoldable pub indexStorePlan : Change
+  indexStorePlan = toMemory indexCore (dataAddress D) (register v (v .core .rx))
+
+  -- MOVX from DM: from the address in %s, to the register that RX names
+  unfoldable pub indexLoadPlan : Change
+  indexLoadPlan = toRegister indexCore (cell v (v .core .rx)) (getD (v .memory) (dataAddress S) 0)
+
+  -- MOV %d,%s; in special-register mode the special register s
+  unfoldable pub movePlan : Change
+  movePlan =
+      toRegister M (cell v (i .destination)) (pick (eqb (v .core .mode) 1) (specialRegister (v .config) (v .core .spr7) (i .source)) S)
+
+  unfoldable pub constantPlan : Change
+  constantPlan = toRegister M (cell v (i .destination)) X
+
+  unfoldable pub loadRegisterPlan : Change
+  loadRegisterPlan = toRegister M (cell v (i .destination)) (getD (v .memory) (dataAddress S) 0)
+
+  unfoldable pub loadDirectPlan : Change
+  loadDirectPlan = toRegister M (cell v (i .destination)) (getD (v .memory) (i .value) 0)
+
+  unfoldable pub storeRegisterPlan : Change
+  storeRegisterPlan = toMemory M (dataAddress D) S
+
+  -- MOV &a,%s: the source stands in 22-16
+  unfoldable pub storeDirectPlan : Change
+  storeDirectPlan = toMemory M (i .value) D
+
+  -- "Each port read takes the next reading mod 2^W"
+  abbrev pub reading : ℕ
+  reading = getD (v .inputs) (v .core .taken) 0 % top (v .config)
+
+  unfoldable pub portReadPlan : Change
+  portReadPlan = toRegister (taking M) (cell v (i .destination)) reading
+
+  -- "each write logs address and value", and is posted
+  unfoldable pub portWritePlan : Change
+  portWritePlan = toLog (posting (logging M) 1 D) (v .core .logged) D X
+
+  -- "IORMW gives %d the reading, logs it with MSbit set, and counts as a read and as a posted write."
+  unfoldable pub portModifyPlan : Change
+  portModifyPlan =
+      change (posting (logging (taking M)) 1 S) (write (cell v (i .destination)) reading) none none
+      (write (v .core .logged) S)
+      (write (v .core .logged) (withTopBit (v .config) reading))
+
+  unfoldable pub jumpPlan : Change
+  jumpPlan = moved (at M (i .value))
+
+  -- a jump that is not taken goes to the next address
+  abbrev pub branched : ℕ → Core
+  branched target = pick (conditionMet (f .condition) (v .core .n) (v .core .z)) (at M target) M
+
+  unfoldable pub branchPlan : Change
+  branchPlan = moved (branched (i .value))
+
+  unfoldable pub jumpRegisterPlan : Change
+  jumpRegisterPlan = moved (at M (registerTarget D))
+
+  unfoldable pub branchRegisterPlan : Change
+  branchRegisterPlan = moved (branched (registerTarget D))
+
+  -- "JSR saves PC+1."
+  abbrev pub called : ℕ → Change
+  called target = toStack (deep (at M target) (v .core .depth + 1)) (v .core .depth) (v .core .pc + 1)
+
+  unfoldable pub callPlan : Change
+  callPlan = called (i .value)
+
+  unfoldable pub callRegisterPlan : Change
+  callRegisterPlan = called (registerTarget D)
+
+  -- the newest address, and the core that returns to it; its cell is cleared: "zeros above them"
+  abbrev pub newest : ℕ
+  newest = v .core .depth - 1
+
+  abbrev pub returned : Core
+  returned = deep (at M (getD (v .stack) newest 0)) newest
+
+  unfoldable pub returnPlan : Change
+  returnPlan = toStack returned newest 0
+
+  -- "RLD loads the signed form."
+  unfoldable pub returnConstantPlan : Change
+  returnConstantPlan =
+      change returned (write (cell v (i .destination)) (constant (v .config) Signed (i .value))) none (write newest 0) none none
+
+  -- JSRWP: the context of the old bank into %00 of the new one
+  unfoldable pub enterBankPlan : Change
+  enterBankPlan = toRegister (banked (at M (i .value)) (16 * i .destination)) (16 * i .destination) (contextOf (v .core))
+
+  -- RETWP: "takes them back from %00, ignoring 25-22"
+  abbrev pub context : ℕ
+  context = register v 0
+
+  unfoldable pub leaveBankPlan : Change
+  leaveBankPlan =
+      moved
+      (masked (flagged (banked (at M (context % 65536)) (16 * (context / 0x4000000))) 0 (context / 0x100000 % 2) (context / 0x200000 % 2))
+      (context / 65536 % 16)
+      (v .core .saved)
+      (v .core .mode))
+
+  -- "SPR_ON saves IMask and sets 15; SPR_OFF reloads."
+  unfoldable pub enterSpecialPlan : Change
+  enterSpecialPlan = moved (masked M 15 (v .core .imask) 1)
+
+  unfoldable pub leaveSpecialPlan : Change
+  leaveSpecialPlan = moved (masked M (v .core .saved) (v .core .saved) 0)
+
+  -- by kind, in the order of words' Kinds
+  abbrev pub plans : List Change
+  plans =
+      moved M ∷  -- unsupported: no word of this kind can be read
+      computePlan ∷
+      comparePlan ∷
+      multiplyPlan ∷
+      computePlan ∷  -- shift
+      computePlan ∷  -- transform
+      computePlan ∷  -- bytewise
+      loadIndexPlan ∷
+      indexStorePlan ∷
+      indexLoadPlan ∷
+      movePlan ∷
+      constantPlan ∷
+      loadRegisterPlan ∷
+      loadDirectPlan ∷
+      storeRegisterPlan ∷
+      storeDirectPlan ∷
+      portReadPlan ∷
+      portModifyPlan ∷
+      portWritePlan ∷
+      jumpPlan ∷
+      branchPlan ∷
+      jumpRegisterPlan ∷
+      branchRegisterPlan ∷
+      callPlan ∷
+      callRegisterPlan ∷
+      returnPlan ∷
+      returnConstantPlan ∷
+      enterBankPlan ∷
+      leaveBankPlan ∷
+      enterSpecialPlan ∷
+      leaveSpecialPlan ∷
+      []
+
+  unfoldable pub planOf : Change
+  planOf = getD plans (f .kind) (moved M)
