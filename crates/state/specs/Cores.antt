@@ -179,9 +179,9 @@ banked m w =
       logged = m .logged;
     }
 
--- the positions: one more input taken, one more place of the log filled
-abbrev pub taking : Core → Core
-taking m =
+-- the positions in the inputs and in the log
+abbrev pub positioned : Core → ℕ → ℕ → Core
+positioned m taken logged =
     record {
       pc = m .pc;
       wp = m .wp;
@@ -196,29 +196,16 @@ taking m =
       mode = m .mode;
       posted = m .posted;
       port = m .port;
-      taken = m .taken + 1;
-      logged = m .logged;
+      taken = taken;
+      logged = logged;
     }
 
+-- one more input taken, one more place of the log filled
+abbrev pub taking : Core → Core
+taking m = positioned m (m .taken + 1) (m .logged)
+
 abbrev pub logging : Core → Core
-logging m =
-    record {
-      pc = m .pc;
-      wp = m .wp;
-      rx = m .rx;
-      ry = m .ry;
-      n = m .n;
-      z = m .z;
-      spr7 = m .spr7;
-      depth = m .depth;
-      imask = m .imask;
-      saved = m .saved;
-      mode = m .mode;
-      posted = m .posted;
-      port = m .port;
-      taken = m .taken;
-      logged = m .logged + 1;
-    }
+logging m = positioned m (m .taken) (m .logged + 1)
 
 -- writes and changes
 

@@ -66,3 +66,6 @@ resetCore =
       taken = 0;
       logged = 0;
     }
+
+abbrev pub resetMachine : Machine
+resetMachine = record { core = resetCore; stack = replicate 63 0 }

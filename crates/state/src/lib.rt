@@ -1,6 +1,8 @@
 // The machine record of the YAM core and what a step does to it: types, small helpers that hand the new record back, and, in specs/, the definitions of
 // a step and a run with what is proved of them.
 
+pub mod helpers;
+
 // The registers of the core, all numbers, so that 'are 0 or 1' is a test. `depth` is how many addresses the return stack holds, `saved` the mask
 // that SPR_ON saved, `mode` 1 in special-register mode, `posted` 1 straight after a port write and `port` its address, `taken` how many
 // inputs (document 01's readings) were taken, `logged` how many places of the output log are filled.
