@@ -86,7 +86,7 @@ row-lent n =
     (h .1 .1 .1 .1 .1 .1 .1 .1 .1 .0))
 
 pub facts-lent : (n : ℕ) → factsLent rowTable n ≡ factsOf n
-unfolding factsLent factsIn factsOf
+unfolding factsLent factsOf
 facts-lent n =
     let h = back n .1 .1 .1 .1 .1 .1 in
     rw (packed-at n) (rw (h .0, h .1 .0, h .1 .1 .0, h .1 .1 .1 .0, h .1 .1 .1 .1))

@@ -42,7 +42,7 @@ unfoldable pub factsOf : ℕ → Facts
 factsOf n = let r = rowAt n in facts (r .kind) (r .operation) (r .form) (r .condition) (marksOf (r .kind))
 
 -- the facts in a row's packed number
-unfoldable pub factsIn : ℕ → Facts
+abbrev pub factsIn : ℕ → Facts
 factsIn p =
     facts (p / 0x1000000 % 256) (p / 0x100000000 % 256) (p / 0x10000000000 % 16) (p / 0x100000000000 % 16) (p / 0x1000000000000)
 

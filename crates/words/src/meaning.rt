@@ -1,6 +1,8 @@
 // The facts of a row: what rules, stops, cycles and text ask of its instructions.
 ghost use mathlib.Core.Path.{_≡_};
+ghost use lib.ListN.{getD};
 ghost use Rattle.words.specs.Facts.{factsOf, factsIn, factsLent};
+ghost use Rattle.words.specs.Packed.{noPacked};
 use crate::Facts;
 use crate::rows::digit;
 use crate::rows::packed_at;
@@ -32,6 +34,39 @@ pub fn facts_in(p: u64) -> Facts
         frombank: m / 8192 % 2 == 1,
         barred: m / 16384 % 2 == 1,
     }
+}
+
+// The packed number of row n by a lent table; past its end that of no row.
+pub fn packed_lent(packs: &[u64], n: u32) -> u64
+    ensures { λ r. ⌜ r ≡ getD (now (packs .entry)) n noPacked ⌝ }
+{
+    packed_at(packs, n)
+}
+
+// The kind, the ALU operation, the form of the operand, the JMP condition, and the marks in a row's packed number.
+
+pub fn kind_in(p: u64) -> u32
+    ensures { λ r. ⌜ r ≡ factsIn p .kind ⌝ }
+{
+    (p / 0x1000000 % 256) as u32
+}
+
+pub fn operation_in(p: u64) -> u32
+    ensures { λ r. ⌜ r ≡ factsIn p .operation ⌝ }
+{
+    (p / 0x100000000 % 256) as u32
+}
+
+pub fn form_in(p: u64) -> u32
+    ensures { λ r. ⌜ r ≡ factsIn p .form ⌝ }
+{
+    (p / 0x10000000000 % 16) as u32
+}
+
+pub fn condition_in(p: u64) -> u32
+    ensures { λ r. ⌜ r ≡ factsIn p .condition ⌝ }
+{
+    (p / 0x100000000000 % 16) as u32
 }
 
 // The facts of row n by a lent table. Whatever it holds, they are `factsLent` of it; with `row_table` that is `factsOf`.

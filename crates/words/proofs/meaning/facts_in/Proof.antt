@@ -6,7 +6,6 @@ use Rattle.words.proofs.meaning.facts_in.Statement.{statement}
 use Rattle.words.proofs.meaning.facts_in.Tie as tie
 
 returns : tie.Need-returns
-unfolding factsIn
 returns c = refl
 
 pub facts-in-spec : {M : Type 1} → statement M
