@@ -1,0 +1,11 @@
+-- `machine::plans::compare` meets its contract. Assumes nothing.
+use borrow.Author.Needs.{needs}
+use Rattle.machine.proofs.plans.compare.Statement.{statement}
+use Rattle.machine.proofs.plans.compare.Tie as tie
+
+returns : tie.Need-returns
+returns c = rw (c .moved .ensures, c .before .flagged .ensures, c .before .before .next .ensures, c .before .before .before .alu .ensures)
+
+pub compare-spec : {M : Type 1} → statement M
+compare-spec =
+    tie.close (tie.spec (λ c κs. search needs) (λ c κs. search needs) (λ c κs. search needs) (λ c κs. search needs) returns)

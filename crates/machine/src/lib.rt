@@ -1,0 +1,4 @@
+// Stepping and running the machine.
+
+mod plans;
+mod values;
