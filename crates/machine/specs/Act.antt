@@ -13,7 +13,7 @@ use Rattle.state.specs.declared.Core.{Core}
 use Rattle.state.specs.declared.Change.{Change}
 use Rattle.state.specs.State.{Env, State, stackLimit}
 use Rattle.state.specs.Cores.{stopped}
-use Rattle.state.specs.Operands.{View}
+use Rattle.state.specs.Operands.{View, specialRegister}
 use Rattle.state.specs.Plans.{planOf, contextOf}
 use Rattle.state.specs.Stops.{stops, stops9to15}
 use Rattle.state.specs.Step.{planAt}
@@ -30,6 +30,10 @@ act v i f = unless (stops9to15 v i f) (v .core) (planOf v i f)
 -- the step's change
 unfoldable pub changeAt : Env → State → Change
 changeAt e s = unless (stops e s) (s .core) (planAt e s)
+
+-- the value that MOV %d,%s moves: s, or in special-register mode that of the special register that the source names
+unfoldable pub movedValue : Config → Core → ℕ → ℕ → ℕ
+movedValue c m source s = pick (eqb (m .mode) 1) (specialRegister c (m .spr7) source) s
 
 -- what the code asks of a core so that no sum is too large; a record in its ranges has it
 pub record Small (m : Core) : Type 0 where

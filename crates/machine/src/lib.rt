@@ -1,4 +1,5 @@
 // Stepping and running the machine.
 
+mod exec;
 mod plans;
 mod values;

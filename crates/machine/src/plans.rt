@@ -35,6 +35,14 @@ fn next(m: Core) -> Core
     m.go(m.pc + 1)
 }
 
+// An instruction of a kind that no word has.
+pub fn skip(m: Core) -> Change
+    requires { ⌜ Small m ⌝ }
+    ensures { λ r. ⌜ r ≡ moved (next m) ⌝ }
+{
+    next(m).moved()
+}
+
 // The result to a register, and the flags.
 pub fn compute(c: Config, m: Core, bit26: u32, o: Operation, i: usize, d: u32, x: u32) -> Change
     requires { ⌜ Small m ⌝ }
