@@ -1,2 +1,4 @@
 pub mod Unchanged
 pub mod Running
+pub mod Good
+pub mod Told
