@@ -52,6 +52,11 @@ all-at f (x ∷ []) n t m = rw m (and-left (f x) true t)
 all-at f (x ∷ (y ∷ ys)) n t (inl e) = rw e (and-left (f x) (all f (y ∷ ys)) t)
 all-at f (x ∷ (y ∷ ys)) n t (inr m) = all-at f (y ∷ ys) n (and-right (f x) (all f (y ∷ ys)) t) m
 
+-- a pair, so that a long chain of facts stands without brackets
+infixr 20 _also_
+pub _also_ : {A B : Type 0} → A → B → A × B
+x also y = (x, y)
+
 -- a fact of each entry, which may speak of its place: the list's first place is k
 module _ {A : Type 0} (P : ℕ → A → Type 0) where
   abbrev pub Placed : ℕ → List A → Type 0

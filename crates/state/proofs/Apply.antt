@@ -2,14 +2,12 @@
 -- Assumes nothing.
 use Prim.Native.Nat.{ℕ, _+_, _<_}
 use mathlib.Core.Path.{_≡_, refl}
-use mathlib.Core.Bool.{true, false}
 use mathlib.Core.List.{List}
 use lib.Dec.{T}
 use lib.ListN.{length, drop, set, length-set}
-use Rattle.laws.specs.Choice.{pick, either}
+use Rattle.laws.specs.Choice.{either}
 use Rattle.laws.specs.Test.{Below}
 use Rattle.laws.specs.Cells.{below-set}
-use Rattle.words.specs.declared.Config.{Config}
 use Rattle.state.specs.declared.Write.{Write}
 use Rattle.state.specs.declared.Change.{Change}
 use Rattle.state.specs.State.{Env, State, top}

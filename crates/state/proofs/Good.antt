@@ -7,10 +7,10 @@ use mathlib.Core.List.{List}
 use native.Mathlib.Omega.{arith}
 use lib.Dec.{T, eqb, eqb→eq}
 use lib.ListN.{length, drop}
-use lib.Pow.{pow-pos, pow-mono}
-use Rattle.laws.specs.Choice.{pick, either}
+use lib.Pow.{pow-mono}
+use Rattle.laws.specs.Choice.{either}
 use Rattle.laws.specs.Test.{most, _and_, test, Holds, holds, Member, Below, eq→eqb}
-use Rattle.laws.specs.Lists.{all, all-at}
+use Rattle.laws.specs.Lists.{all, all-at, _also_}
 use Rattle.words.specs.declared.Config.{Config}
 use Rattle.words.specs.Configs.{widths, registerSizes, bankSizes, dataSizes, lawful}
 use Rattle.arith.specs.Width.{bits}
@@ -191,11 +191,18 @@ pub valid : (e : Env) (s : State) → Good e s → Valid e s
 unfolding guards inRanges
 valid e s g =
     let m = g .core in
-    (g .lawful, (
-      (g .image, (g .registers, (g .memory, g .log))), (
-        (
-          (m .pc, (m .bank .whole, (m .bank .inside, (m .indices .x, m .indices .y)))), (
-            (m .flags .negative, (m .flags .zero, (m .masks .special, (m .posted .mark, (m .masks .now, (m .masks .kept, (
-              m .high .word, λ t. m .high .none (eqb→eq (e .config .regwidth) 32 t)))))))), (
-              (m .depth, (m .posted .word, ((λ t. m .posted .none (eqb→eq (s .core .posted) 0 t)), (m .taken, m .logged)))),
-              (g .addresses, (g .zeros, (g .cells, g .words)))))), tt)))
+    let places = m .pc also m .bank .whole also m .bank .inside also m .indices .x also m .indices .y in
+    let product : T (eqb (e .config .regwidth) 32) → s .core .spr7 ≡ 0 = λ t. m .high .none (eqb→eq (e .config .regwidth) 32 t) in
+    let address : T (eqb (s .core .posted) 0) → s .core .port ≡ 0 = λ t. m .posted .none (eqb→eq (s .core .posted) 0 t) in
+    let marks =
+    m .flags .negative also
+    m .flags .zero also
+    m .masks .special also
+    m .posted .mark also
+    m .masks .now also
+    m .masks .kept also
+    m .high .word also
+    product in
+    let positions = m .depth also m .posted .word also address also m .taken also m .logged in
+    let cells = g .addresses also g .zeros also g .cells also g .words in
+    g .lawful also (g .image also g .registers also g .memory also g .log) also (places also marks also positions also cells) also tt

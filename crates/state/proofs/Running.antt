@@ -1,8 +1,8 @@
 -- A run by its steps: it is put together from shorter runs, it takes no more steps than its budget, and its cycles lie between 2 and 3 times its
 -- steps.
 -- Assumes nothing.
-use Prim.Native.Nat.{ℕ, zero, suc, _+_, _*_, _≤_}
-use mathlib.Core.Path.{_≡_, refl}
+use Prim.Native.Nat.{ℕ, zero, suc, _+_, _≤_}
+use mathlib.Core.Path.{_≡_}
 use mathlib.Core.Bool.{Bool, true, false, not, _&&_, _||_}
 use native.Mathlib.Nat.{add-assoc, zero-add, suc-add}
 use mathlib.Core.List.{_++_, [], _∷_}

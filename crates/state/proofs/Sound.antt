@@ -1,19 +1,17 @@
 -- What an instruction changes is sound, shown for each plan under what the step's stops tell.
 -- Assumes nothing.
-use Prim.Native.Nat.{ℕ, suc, _+_, _-_, _*_, _/_, _%_, _^_, _<_, _≤_}
-use mathlib.Core.Path.{_≡_, refl, _∙_, sym, ap}
-use mathlib.Core.Logic.{_⊎_, inl, inr}
-use mathlib.Core.Bool.{Bool, true, false}
-use mathlib.Core.List.{List, [], _∷_}
+use Prim.Native.Nat.{ℕ, suc, _+_, _*_, _/_, _%_, _<_, _≤_}
+use mathlib.Core.Path.{_≡_, refl, _∙_}
+use mathlib.Core.Logic.{inl, inr}
+use mathlib.Core.List.{[], _∷_}
 use native.Mathlib.Nat.{mod-lt}
 use native.Mathlib.Numerals.{add-one}
 use native.Mathlib.Omega.{arith}
-use lib.Dec.{T, eqb}
-use lib.ListN.{length, getD, drop, set}
-use lib.Pow.{pow-pos}
+use lib.Dec.{eqb}
+use lib.ListN.{length, getD}
 use Rattle.laws.specs.Choice.{pick, either}
-use Rattle.laws.specs.Test.{Below, eq→eqb, Member}
-use Rattle.laws.specs.Lists.{Placed, placed-at}
+use Rattle.laws.specs.Test.{eq→eqb, Member}
+use Rattle.laws.specs.Lists.{_also_, Placed, placed-at}
 use Rattle.laws.specs.Cells.{below-at, below-above, below-from}
 use Rattle.words.specs.declared.Config.{Config}
 use Rattle.words.specs.declared.Instruction.{Instruction}
@@ -21,19 +19,18 @@ use Rattle.words.specs.declared.Facts.{Facts}
 use Rattle.words.specs.Kinds.{load-index, enter-bank, leave-bank}
 use Rattle.arith.specs.declared.Form.{Form}
 use Rattle.arith.specs.declared.Form.the-variants.{Signed, Unsigned, Shifted}
-use Rattle.arith.specs.Width.{bits, one}
-use Rattle.arith.specs.Fits.{Fits, one-le, answer-fits, ProductFits, product-answer-fits, immediate-answer-fits}
+use Rattle.arith.specs.Width.{bits}
+use Rattle.arith.specs.Fits.{Fits, one-le, answer-fits, product-answer-fits, immediate-answer-fits}
 use Rattle.state.specs.declared.Core.{Core}
 use Rattle.state.specs.declared.Write.{Write}
-use Rattle.state.specs.declared.Change.{Change}
-use Rattle.state.specs.State.{Env, State, top, stackLimit}
-use Rattle.state.specs.Cores.{at, posting, next, flagged, indexed, multiplied, deep, masked, banked, taking, logging, none, write, change, moved, toRegister, toMemory, toStack, toLog}
-use Rattle.state.specs.Operands.{View, viewOf, cell, register, dataAddress, constant, operand, operationOf, conditionMet, specialRegister}
-use Rattle.state.specs.Plans.{advanced, contextOf, registerTarget, D, S, X, M, result, product, comparePlan, computePlan, multiplyPlan, loadIndexPlan, indexCore, indexStorePlan, indexLoadPlan, movePlan, constantPlan, loadRegisterPlan, loadDirectPlan, storeRegisterPlan, storeDirectPlan, portReadPlan, portWritePlan, portModifyPlan, jumpPlan, branched, branchPlan, jumpRegisterPlan, branchRegisterPlan, called, callPlan, callRegisterPlan, newest, returned, returnPlan, returnConstantPlan, enterBankPlan, context, leaveBankPlan, enterSpecialPlan, leaveSpecialPlan, plans, planOf}
+use Rattle.state.specs.State.{Env, State, top}
+use Rattle.state.specs.Cores.{at, flagged, none, write, change, moved, toRegister, toMemory}
+use Rattle.state.specs.Operands.{View, viewOf, cell, register, constant, operand, operationOf, conditionMet, specialRegister}
+use Rattle.state.specs.Plans.{advanced, contextOf, registerTarget, D, S, X, M, result, comparePlan, computePlan, multiplyPlan, loadIndexPlan, indexCore, indexStorePlan, indexLoadPlan, movePlan, constantPlan, loadRegisterPlan, loadDirectPlan, storeRegisterPlan, storeDirectPlan, portReadPlan, portWritePlan, portModifyPlan, jumpPlan, branched, branchPlan, jumpRegisterPlan, branchRegisterPlan, called, callPlan, callRegisterPlan, newest, returned, returnPlan, returnConstantPlan, enterBankPlan, leaveBankPlan, enterSpecialPlan, leaveSpecialPlan, plans, planOf}
 use Rattle.state.specs.Stops.{partsAt, factsAt}
 use Rattle.state.specs.Step.{putOf, planAt}
-use Rattle.state.proofs.Good.{Bounds, bounds, top-byte, InBank, Indices, Flags, Masks, High, Posted, Ranged, Good}
-use Rattle.state.proofs.Told.{targeted, pushing, popping, reading, writing, Enters, Told}
+use Rattle.state.proofs.Good.{Bounds, bounds, top-byte, InBank, Posted, Ranged, Good}
+use Rattle.state.proofs.Told.{pushing, popping, reading, writing, Told}
 use Rattle.state.proofs.Kept.{kept-at, kept-banked, kept-indexed, kept-flagged, kept-multiplied, kept-deep, kept-masked, kept-posting, kept-taking, kept-logging}
 use Rattle.state.proofs.Apply.{Small, Sound}
 
@@ -86,10 +83,14 @@ module _ (e : Env) (s : State) (g : Good e s) (t : Told e s) where
       let x = i .value in
       placed-at (λ k x. f .form ≡ k → x < top c)
       (S v i f ∷ S v i f ∷ constant c Signed x ∷ constant c Unsigned x ∷ constant c Shifted x ∷ 0 ∷ x ∷ []) (f .form) 0
-      ((λ z. register-word _), (
-        (λ z. register-word _), (
-          (λ z. constant-word _ _), (
-            (λ z. constant-word _ _), ((λ z. constant-word _ _), ((λ z. some), ((λ z. omega (arith, t .count z, top-byte c)), tt)))))))
+      ((λ z. register-word _) also
+      (λ z. register-word _) also
+      (λ z. constant-word _ _) also
+      (λ z. constant-word _ _) also
+      (λ z. constant-word _ _) also
+      (λ z. some) also
+      (λ z. omega (arith, t .count z, top-byte c)) also
+      tt)
       (λ z. some)
       refl
 
@@ -108,7 +109,12 @@ module _ (e : Env) (s : State) (g : Good e s) (t : Told e s) where
   to h = kept-at onward h
 
   -- changes that leave the return stack
-  plain : {m : Core} {reg dm at′ val′ : Write} → In m → m .depth ≡ s .core .depth → Small (top c) reg → Small (top c) dm → Sound e s (change m reg dm none at′ val′)
+  plain : {m : Core} {reg dm at′ val′ : Write} →
+      In m →
+      m .depth ≡ s .core .depth →
+      Small (top c) reg →
+      Small (top c) dm →
+      Sound e s (change m reg dm none at′ val′)
   unfolding putOf pick
   plain h d r q = record { core = h; reg = r; dm = q; stack = no-write; zeros = rw d (g .zeros) }
 
@@ -239,7 +245,10 @@ module _ (e : Env) (s : State) (g : Good e s) (t : Told e s) where
         zeros = rw (add-one (s .core .depth)) (below-above 1 (s .stack) (s .core .depth) (s .core .pc + 1) (g .zeros));
       }
 
-  return-sound : {reg : Write} → Member (f .kind) popping → Small (top c) reg → Sound e s (change (returned v i f) reg none (write (newest v i f) 0) none none)
+  return-sound : {reg : Write} →
+      Member (f .kind) popping →
+      Small (top c) reg →
+      Sound e s (change (returned v i f) reg none (write (newest v i f) 0) none none)
   unfolding putOf pick
   return-sound k r =
       let d = t .pops k in
@@ -298,34 +307,35 @@ module _ (e : Env) (s : State) (g : Good e s) (t : Told e s) where
     where
       by-kind : Placed (λ k x. f .kind ≡ k → Sound e s x) 0 (plans v i f)
       by-kind =
-          ((λ k. moved-sound onward refl), (
-          (λ k. compute-sound), (
-          (λ k. compare-sound), (
-          (λ k. multiply-sound), (
-          (λ k. compute-sound), (
-          (λ k. compute-sound), (
-          (λ k. compute-sound), (
-          load-index-sound, (
-          (λ k. index-store-sound), (
-          (λ k. index-load-sound), (
-          (λ k. move-sound), (
-          (λ k. constant-sound), (
-          (λ k. load-register-sound), (
-          (λ k. load-direct-sound), (
-          (λ k. store-register-sound), (
-          (λ k. store-direct-sound), (
-          (λ k. port-read-sound (inl k)), (
-          (λ k. port-modify-sound (inr k) (inl k)), (
-          (λ k. port-write-sound (inr k)), (
-          (λ k. jump-sound (t .target (inl k))), (
-          (λ k. branch-sound (i .value) (t .target (inr (inl k)))), (
-          (λ k. jump-sound register-target), (
-          (λ k. branch-sound (registerTarget (D v i f)) register-target), (
-          (λ k. call-sound (i .value) (inl k) (t .target (inr (inr k)))), (
-          (λ k. call-sound (registerTarget (D v i f)) (inr k) register-target), (
-          (λ k. return-sound (inl k) no-write), (
-          (λ k. return-sound (inr k) (wrote (constant-word _ _))), (
-          enter-bank-sound, (
-          leave-bank-sound, (
-          (λ k. enter-special-sound), (
-          (λ k. leave-special-sound), tt)))))))))))))))))))))))))))))))
+          (λ k. moved-sound onward refl) also
+          (λ k. compute-sound) also
+          (λ k. compare-sound) also
+          (λ k. multiply-sound) also
+          (λ k. compute-sound) also
+          (λ k. compute-sound) also
+          (λ k. compute-sound) also
+          load-index-sound also
+          (λ k. index-store-sound) also
+          (λ k. index-load-sound) also
+          (λ k. move-sound) also
+          (λ k. constant-sound) also
+          (λ k. load-register-sound) also
+          (λ k. load-direct-sound) also
+          (λ k. store-register-sound) also
+          (λ k. store-direct-sound) also
+          (λ k. port-read-sound (inl k)) also
+          (λ k. port-modify-sound (inr k) (inl k)) also
+          (λ k. port-write-sound (inr k)) also
+          (λ k. jump-sound (t .target (inl k))) also
+          (λ k. branch-sound (i .value) (t .target (inr (inl k)))) also
+          (λ k. jump-sound register-target) also
+          (λ k. branch-sound (registerTarget (D v i f)) register-target) also
+          (λ k. call-sound (i .value) (inl k) (t .target (inr (inr k)))) also
+          (λ k. call-sound (registerTarget (D v i f)) (inr k) register-target) also
+          (λ k. return-sound (inl k) no-write) also
+          (λ k. return-sound (inr k) (wrote (constant-word _ _))) also
+          enter-bank-sound also
+          leave-bank-sound also
+          (λ k. enter-special-sound) also
+          (λ k. leave-special-sound) also
+          tt

@@ -1,14 +1,13 @@
 -- A state that 1, 2 and 3 let pass is let pass again after a step, and so is every state of a run.
 -- Assumes nothing.
 use Prim.Native.Nat.{ℕ, zero, suc}
-use mathlib.Core.List.{List, [], _∷_}
 use lib.Dec.{eqb, eqb→eq}
-use Rattle.laws.specs.Choice.{pick, either}
+use Rattle.laws.specs.Choice.{either}
 use Rattle.laws.specs.First.{Every}
 use Rattle.state.specs.State.{Env, State}
 use Rattle.state.specs.Step.{Outcome, refused, number, planAt, advanceOf}
 use Rattle.state.specs.Run.{Run, ended, after, runOf}
-use Rattle.state.specs.Claims.{Valid, StaysValid}
+use Rattle.state.specs.Claims.{StaysValid}
 use Rattle.state.proofs.Good.{Good, good, valid}
 use Rattle.state.proofs.Told.{told}
 use Rattle.state.proofs.Apply.{applied-good}
