@@ -10,6 +10,7 @@ use lib.ListN.{length, drop}
 use lib.Pow.{pow-mono}
 use Rattle.laws.specs.Choice.{either}
 use Rattle.laws.specs.Test.{most, _and_, test, Holds, holds, Member, Below, eq→eqb}
+use Rattle.laws.specs.First.{first-failing, numbered, obeyed, none-fails}
 use Rattle.laws.specs.Lists.{all, all-at, _also_}
 use Rattle.words.specs.declared.Config.{Config}
 use Rattle.words.specs.Configs.{widths, registerSizes, bankSizes, dataSizes, lawful}
@@ -206,3 +207,11 @@ valid e s g =
     let positions = m .depth also m .posted .word also address also m .taken also m .logged in
     let cells = g .addresses also g .zeros also g .cells also g .words in
     g .lawful also (g .image also g .registers also g .memory also g .log) also (places also marks also positions also cells) also tt
+
+-- and of the number that they answer
+pub accepted : (e : Env) (s : State) → first-failing (guards e s) ≡ 0 → Good e s
+unfolding guards
+accepted e s h = good e s (obeyed (guards e s) (numbered (guards e s) tt) h)
+
+pub passes : (e : Env) (s : State) → Good e s → first-failing (guards e s) ≡ 0
+passes e s g = none-fails (guards e s) (valid e s g)
