@@ -2,13 +2,13 @@
 -- Assumes nothing.
 use mathlib.Core.Path.{_≡_, refl, _∙_}
 use mathlib.Core.Logic.{_⊎_, inl, inr}
-use mathlib.Core.Bool.{Bool, true, false}
+use mathlib.Core.Bool.{Bool, true, false, _&&_}
 use mathlib.Core.List.{List, [], _∷_, _++_}
 use Prim.Native.Nat.{ℕ, _<_}
 use native.Mathlib.Omega.{arith}
-use lib.Dec.{T}
+use lib.Dec.{T, ltb, ltb→lt}
 use Rattle.laws.specs.Choice.{pick, pick-yes}
-use Rattle.laws.specs.Test.{Test, test, Holds, holds, tests}
+use Rattle.laws.specs.Test.{Test, test, Holds, holds, tests, and-left, and-right}
 
 abbrev pub first-failing : List (ℕ × Test) → ℕ
 first-failing [] = 0
@@ -25,6 +25,17 @@ Obeyed = Every (λ r. Holds (r .1))
 -- no number of the list is 0, but where its test holds
 abbrev pub Numbered : List (ℕ × Test) → Type 0
 Numbered = Every (λ r. Holds (r .1) ⊎ (0 < r .0))
+
+-- so it is where no number is 0, which is computed
+abbrev pub positive : List (ℕ × Test) → Bool
+positive [] = true
+positive (x ∷ xs) = ltb 0 (x .0) && positive xs
+
+pub numbered : (xs : List (ℕ × Test)) → T (positive xs) → Numbered xs
+numbered [] t = tt
+numbered (x ∷ xs) t =
+    let b = ltb 0 (x .0) in
+    (inr (ltb→lt 0 (x .0) (and-left b (positive xs) t)), numbered xs (and-right b (positive xs) t))
 
 -- tests that hold are passed over
 pub skip : (xs ys : List (ℕ × Test)) → Obeyed xs → first-failing (xs ++ ys) ≡ first-failing ys

@@ -3,3 +3,4 @@ pub mod Test
 pub mod First
 pub mod Lists
 pub mod Table
+pub mod Cells
