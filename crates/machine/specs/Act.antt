@@ -12,9 +12,11 @@ use Rattle.words.specs.declared.Facts.{Facts}
 use Rattle.state.specs.declared.Core.{Core}
 use Rattle.state.specs.declared.Change.{Change}
 use Rattle.state.specs.State.{Env, State, stackLimit}
-use Rattle.state.specs.Cores.{stopped}
+use Rattle.words.specs.Kinds.{compute, shift, transform, bytewise}
+use Rattle.arith.specs.declared.Operation.{Operation}
+use Rattle.state.specs.Cores.{next, flagged, stopped, moved, toRegister}
 use Rattle.state.specs.Operands.{View, specialRegister}
-use Rattle.state.specs.Plans.{planOf, contextOf}
+use Rattle.state.specs.Plans.{alu, planOf}
 use Rattle.state.specs.Stops.{stops, stops9to15}
 use Rattle.state.specs.Step.{planAt}
 
@@ -34,6 +36,18 @@ changeAt e s = unless (stops e s) (s .core) (planAt e s)
 -- the value that MOV %d,%s moves: s, or in special-register mode that of the special register that the source names
 unfoldable pub movedValue : Config → Core → ℕ → ℕ → ℕ
 movedValue c m source s = pick (eqb (m .mode) 1) (specialRegister c (m .spr7) source) s
+
+-- the result of operation o on d and x to the register at cell i with its flags, and the flags alone
+unfoldable pub computed : Config → Core → ℕ → Operation → ℕ → ℕ → ℕ → Change
+computed c m bit26 o i d x =
+    toRegister (flagged (next m) bit26 (alu c o d x (m .n) .z) (alu c o d x (m .n) .n)) i (alu c o d x (m .n) .value)
+
+unfoldable pub compared : Config → Core → ℕ → Operation → ℕ → ℕ → Change
+compared c m bit26 o d x = moved (flagged (next m) bit26 (alu c o d x (m .n) .z) (alu c o d x (m .n) .n))
+
+-- the kinds whose result goes to a register
+abbrev pub computing : List ℕ
+computing = compute ∷ shift ∷ transform ∷ bytewise ∷ []
 
 -- what the code asks of a core so that no sum is too large; a record in its ranges has it
 pub record Small (m : Core) : Type 0 where

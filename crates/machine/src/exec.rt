@@ -51,6 +51,7 @@ pub fn exec(
     let s = register_at(registers, wp, i.source);
     let at = wp + (i.destination as usize);
     match kind {
+        0 => plans::skip(m),
         1 => plans::compute(
             c,
             m,
@@ -117,7 +118,7 @@ pub fn exec(
         25 => plans::ret(m, stack),
         26 => plans::ret_constant(c, m, at, i.value, stack),
         27 => plans::enter_bank(c, m, i.destination, i.value),
-        28 => plans::leave_bank(c, m, value_at(registers, wp)),
+        28 => plans::leave_bank(c, m, register_at(registers, wp, 0)),
         29 => plans::enter_special(m),
         30 => plans::leave_special(m),
         _ => plans::skip(m),

@@ -11,8 +11,8 @@ ghost use Rattle.arith.specs.declared.Form.the-variants.{Signed};
 ghost use Rattle.state.specs.State.{top, stackLimit};
 ghost use Rattle.state.specs.Cores.{at, posting, next, flagged, indexed, multiplied, deep, masked, banked, taking, logging, none, write, change, stopped, moved, toRegister, toMemory, toStack, toLog};
 ghost use Rattle.state.specs.Operands.{dataAddress, constant, conditionMet};
-ghost use Rattle.state.specs.Plans.{alu, product, advanced, withTopBit, contextOf, registerTarget};
-ghost use Rattle.machine.specs.Act.{Small};
+ghost use Rattle.state.specs.Plans.{product, advanced, withTopBit, contextOf, registerTarget};
+ghost use Rattle.machine.specs.Act.{computed, compared, Small};
 use crate::values::condition_met;
 use crate::values::cut;
 use crate::values::one;
@@ -46,7 +46,7 @@ pub fn skip(m: Core) -> Change
 // The result to a register, and the flags.
 pub fn compute(c: Config, m: Core, bit26: u32, o: Operation, i: usize, d: u32, x: u32) -> Change
     requires { ⌜ Small m ⌝ }
-    ensures { λ r. ⌜ r ≡ toRegister (flagged (next m) bit26 (alu c o d x (m .n) .z) (alu c o d x (m .n) .n)) i (alu c o d x (m .n) .value) ⌝ }
+    ensures { λ r. ⌜ r ≡ computed c m bit26 o i d x ⌝ }
 {
     let w = arith::alu(c.regwidth, o, d, x, m.n);
     next(m).flagged(bit26, w.z, w.n).to_register(i, w.value)
@@ -55,7 +55,7 @@ pub fn compute(c: Config, m: Core, bit26: u32, o: Operation, i: usize, d: u32, x
 // The flags alone.
 pub fn compare(c: Config, m: Core, bit26: u32, o: Operation, d: u32, x: u32) -> Change
     requires { ⌜ Small m ⌝ }
-    ensures { λ r. ⌜ r ≡ moved (flagged (next m) bit26 (alu c o d x (m .n) .z) (alu c o d x (m .n) .n)) ⌝ }
+    ensures { λ r. ⌜ r ≡ compared c m bit26 o d x ⌝ }
 {
     let w = arith::alu(c.regwidth, o, d, x, m.n);
     next(m).flagged(bit26, w.z, w.n).moved()

@@ -1,9 +1,11 @@
 -- `machine::plans::compare` meets its contract. Assumes nothing.
+use Rattle.machine.specs.Act.{compared}
 use borrow.Author.Needs.{needs}
 use Rattle.machine.proofs.plans.compare.Statement.{statement}
 use Rattle.machine.proofs.plans.compare.Tie as tie
 
 returns : tie.Need-returns
+unfolding compared
 returns c = rw (c .moved .ensures, c .before .flagged .ensures, c .before .before .next .ensures, c .before .before .before .alu .ensures)
 
 pub compare-spec : {M : Type 1} → statement M

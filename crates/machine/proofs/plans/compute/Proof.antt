@@ -1,9 +1,11 @@
 -- `machine::plans::compute` meets its contract. Assumes nothing.
+use Rattle.machine.specs.Act.{computed}
 use borrow.Author.Needs.{needs}
 use Rattle.machine.proofs.plans.compute.Statement.{statement}
 use Rattle.machine.proofs.plans.compute.Tie as tie
 
 returns : tie.Need-returns
+unfolding computed
 returns c = rw (c .to-register .ensures, c .before .flagged .ensures, c .before .before .next .ensures, c .before .before .before .alu .ensures)
 
 pub compute-spec : {M : Type 1} → statement M
