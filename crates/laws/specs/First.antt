@@ -6,7 +6,8 @@ use mathlib.Core.Bool.{Bool, true, false, _&&_}
 use mathlib.Core.List.{List, [], _∷_, _++_}
 use Prim.Native.Nat.{ℕ, _<_}
 use native.Mathlib.Omega.{arith}
-use lib.Dec.{T, ltb, ltb→lt}
+use borrow.Author.Tests.{ne-eqb}
+use lib.Dec.{eqb, T, ltb, ltb→lt}
 use Rattle.laws.specs.Choice.{pick, pick-yes}
 use Rattle.laws.specs.Test.{Test, test, Holds, holds, tests, and-left, and-right}
 
@@ -82,3 +83,18 @@ pub allowed : (P : ℕ → Type 0) (xs : List (ℕ × Test)) → P 0 → Every (
 allowed P [] z h = z
 allowed P (x ∷ xs) z h =
     chosen P (test (x .1)) (first-failing xs) (x .0) (holds-or P (x .1) (x .0) (h .0)) (allowed P xs z (h .1))
+
+-- one list after another: the second counts where the first has no failing test
+pub first-append : (xs ys : List (ℕ × Test)) → T (positive xs) →
+    first-failing (xs ++ ys) ≡ pick (eqb (first-failing xs) 0) (first-failing ys) (first-failing xs)
+unfolding pick
+first-append [] ys t = refl
+first-append (r ∷ rs) ys t =
+    go (test (r .1)) (first-append rs ys (and-right (ltb 0 (r .0)) (positive rs) t))
+    (ltb→lt 0 (r .0) (and-left (ltb 0 (r .0)) (positive rs) t))
+  where
+    go : (b : Bool) → first-failing (rs ++ ys) ≡ pick (eqb (first-failing rs) 0) (first-failing ys) (first-failing rs) → 0 < r .0 →
+        pick b (first-failing (rs ++ ys)) (r .0) ≡
+        pick (eqb (pick b (first-failing rs) (r .0)) 0) (first-failing ys) (pick b (first-failing rs) (r .0))
+    go true ih h = ih
+    go false ih h = simp (ne-eqb (r .0) 0 (λ e. omega arith))

@@ -1,2 +1,6 @@
 pub mod Operands
 pub mod Acting
+pub mod Deciding
+pub mod Decided
+pub mod Cellwise
+pub mod Going

@@ -136,7 +136,7 @@ stands c i e =
 
 -- what an answer of number 0 tells
 
-decoded : (n : ℕ) (i j : Instruction) → answered n i ≡ understood j → (n ≡ 0) × (i ≡ j)
+pub decoded : (n : ℕ) (i j : Instruction) → answered n i ≡ understood j → (n ≡ 0) × (i ≡ j)
 unfolding answered pick
 decoded n i j e =
     let z : n ≡ 0 = ap (λ r. r .number) e in

@@ -1,0 +1,197 @@
+-- The word at PC, step by step: what advance.rt decides is `changeAt`, and what it carries out is `advanceOf`.
+-- Assumes nothing.
+use Prim.Native.Nat.{ℕ, _+_, _*_, _/_, _≤_, _<_}
+use mathlib.Core.Path.{_≡_, refl, sym, ap, _∙_}
+use mathlib.Core.Bool.{Bool, true, false}
+use mathlib.Core.List.{List, [], _∷_, _++_}
+use native.Mathlib.Omega.{arith}
+use borrow.Author.Tests.{lt-ltb, le-ltb, eq-eqb, ne-eqb, eqb-false}
+use lib.Dec.{T, ltb, eqb, ltb→lt}
+use lib.ListN.{getD}
+use Rattle.laws.specs.Choice.{pick}
+use Rattle.laws.specs.Test.{Test, test, and-left, and-right, Below}
+use Rattle.laws.specs.First.{first-failing, positive}
+use Rattle.laws.specs.Lists.{column, column-at}
+use Rattle.laws.specs.Cells.{below-at}
+use Rattle.words.specs.declared.Config.{Config}
+use Rattle.words.specs.declared.Instruction.{Instruction}
+use Rattle.words.specs.declared.Facts.{Facts}
+use Rattle.words.specs.declared.Refusal.{Refusal}
+use Rattle.words.specs.declared.Refusal.the-variants.{Unlawful, NoRow, Unavailable, OutOfRange}
+use Rattle.words.specs.declared.Reading.the-variants.{Decoded, Refused}
+use Rattle.words.specs.Kinds.{marksOf}
+use Rattle.words.specs.Rows.{rowAt}
+use Rattle.words.specs.Words.{refusals567, answered, partsBy, partsOf, readBy, readLawful}
+use Rattle.words.specs.Answers.{refusalNumber, readingOf}
+use Rattle.words.specs.Packed.{noPacked, rowTable}
+use Rattle.words.specs.Facts.{facts, factsOf, factsIn, factsLent}
+use Rattle.words.proofs.RoundTrip.{decoded}
+use Rattle.words.proofs.Lent.{facts-lent}
+use Rattle.state.specs.declared.Core.{Core}
+use Rattle.state.specs.declared.Change.{Change}
+use Rattle.state.specs.State.{Env, State}
+use Rattle.state.specs.Cores.{stopped, moved, next}
+use Rattle.state.specs.Operands.{View, viewOf}
+use Rattle.state.specs.Plans.{contextOf, comparePlan, computePlan, multiplyPlan, loadIndexPlan, indexStorePlan, indexLoadPlan, movePlan, constantPlan, loadRegisterPlan, loadDirectPlan, storeRegisterPlan, storeDirectPlan, portReadPlan, portWritePlan, portModifyPlan, jumpPlan, branchPlan, jumpRegisterPlan, branchRegisterPlan, callPlan, callRegisterPlan, returnPlan, returnConstantPlan, enterBankPlan, leaveBankPlan, enterSpecialPlan, leaveSpecialPlan, plans, planOf}
+use Rattle.state.specs.Stops.{stop8, stops9to15, partsAt, factsAt, stops}
+use Rattle.state.specs.Step.{number, applied, planAt, cyclesOf, Outcome, refused, advanceOf}
+use Rattle.state.proofs.Good.{Good, Bounds, bounds}
+use Rattle.machine.specs.Act.{unless, act, changeAt, Small}
+
+-- a stop, or what the rest of the list decides
+pub unless-first : (xs ys : List (ℕ × Test)) (m : Core) (x : Change) → T (positive xs) →
+    unless (xs ++ ys) m x ≡ pick (eqb (first-failing xs) 0) (unless ys m x) (stopped m (first-failing xs))
+unfolding pick
+unless-first [] ys m x t = refl
+unless-first (r ∷ rs) ys m x t =
+    go (test (r .1)) (unless-first rs ys m x (and-right (ltb 0 (r .0)) (positive rs) t))
+    (ltb→lt 0 (r .0) (and-left (ltb 0 (r .0)) (positive rs) t))
+  where
+    go : (b : Bool) → unless (rs ++ ys) m x ≡ pick (eqb (first-failing rs) 0) (unless ys m x) (stopped m (first-failing rs)) → 0 < r .0 →
+        pick b (unless (rs ++ ys) m x) (stopped m (r .0)) ≡
+        pick (eqb (pick b (first-failing rs) (r .0)) 0) (unless ys m x) (stopped m (pick b (first-failing rs) (r .0)))
+    go true ih h = ih
+    go false ih h = simp (ne-eqb (r .0) 0 (λ e. omega arith))
+
+pub unless-all : (xs : List (ℕ × Test)) (m : Core) (x : Change) → T (positive xs) →
+    unless xs m x ≡ pick (eqb (first-failing xs) 0) x (stopped m (first-failing xs))
+unfolding pick
+unless-all [] m x t = refl
+unless-all (r ∷ rs) m x t =
+    go (test (r .1)) (unless-all rs m x (and-right (ltb 0 (r .0)) (positive rs) t))
+    (ltb→lt 0 (r .0) (and-left (ltb 0 (r .0)) (positive rs) t))
+  where
+    go : (b : Bool) → unless rs m x ≡ pick (eqb (first-failing rs) 0) x (stopped m (first-failing rs)) → 0 < r .0 →
+        pick b (unless rs m x) (stopped m (r .0)) ≡
+        pick (eqb (pick b (first-failing rs) (r .0)) 0) x (stopped m (pick b (first-failing rs) (r .0)))
+    go true ih h = ih
+    go false ih h = simp (ne-eqb (r .0) 0 (λ e. omega arith))
+
+pub not-zero : (x : Refusal) → refusalNumber x ≡ 0 → ⊥
+unfolding refusalNumber
+not-zero Unlawful e = omega arith
+not-zero NoRow e = omega arith
+not-zero Unavailable e = omega arith
+not-zero OutOfRange e = omega arith
+
+module _ (e : Env) (s : State) where
+  abbrev word : ℕ
+  word = getD (e .image) (s .core .pc) 0
+
+  abbrev verdict : ℕ
+  verdict = first-failing (refusals567 (e .config) (rowAt (partsAt e s .row)) (partsAt e s))
+
+  -- 4
+  pub outside : e .config .imsize ≤ s .core .pc → stopped (s .core) 4 ≡ changeAt e s
+  unfolding changeAt stops pick
+  outside h = rw (le-ltb _ _ h)
+
+  -- what comes after 4, 5, 6 and 7
+  abbrev later : Change
+  later = pick (test (stop8 (s .core .mode) (partsAt e s .source) (factsAt e s))) (act (viewOf e s) (partsAt e s) (factsAt e s)) (stopped (s .core) 8)
+
+  inside : s .core .pc < e .config .imsize → changeAt e s ≡ pick (eqb verdict 0) later (stopped (s .core) verdict)
+  unfolding changeAt stops refusals567 act planAt pick
+  inside h =
+      rw (lt-ltb _ _ h)
+      (unless-first (refusals567 (e .config) (rowAt (partsAt e s .row)) (partsAt e s))
+      ((8, stop8 (s .core .mode) (partsAt e s .source) (factsAt e s)) ∷ stops9to15 (viewOf e s) (partsAt e s) (factsAt e s))
+      (s .core)
+      (planAt e s)
+      tt)
+
+  -- 5, 6, 7
+  read-number : (x : Refusal) → readingOf (Refused x) ≡ readLawful (e .config) word → refusalNumber x ≡ verdict
+  unfolding readingOf readLawful readBy partsOf answered
+  read-number x q = ap (λ r. r .number) q
+
+  pub unreadable : s .core .pc < e .config .imsize → (x : Refusal) → readingOf (Refused x) ≡ readLawful (e .config) word →
+      stopped (s .core) (refusalNumber x) ≡ changeAt e s
+  unfolding pick
+  unreadable h x q =
+      let n = read-number x q in
+      rw n (sym (inside h ∙ rw (ne-eqb verdict 0 (λ z. not-zero x (n ∙ z)))))
+
+  -- what was read is the instruction at PC
+  pub read-parts : (j : Instruction) → readingOf (Decoded j) ≡ readLawful (e .config) word → (verdict ≡ 0) × (partsAt e s ≡ j)
+  unfolding readingOf readLawful readBy partsOf
+  read-parts j q = decoded _ _ _ (sym q)
+
+  pub readable : s .core .pc < e .config .imsize → (j : Instruction) → readingOf (Decoded j) ≡ readLawful (e .config) word →
+      changeAt e s ≡
+      pick (test (stop8 (s .core .mode) (j .source) (factsOf (j .row)))) (act (viewOf e s) j (factsOf (j .row))) (stopped (s .core) 8)
+  unfolding pick
+  readable h j q =
+      let p = read-parts j q in
+      inside h ∙ rw (p .0, p .1)
+
+  -- the change is the plan's or a stop's
+  changed : changeAt e s ≡ pick (eqb (number e s) 0) (planAt e s) (stopped (s .core) (number e s))
+  unfolding changeAt number stops refusals567 stops9to15
+  changed = unless-all (stops e s) (s .core) (planAt e s) tt
+
+  changed-plan : eqb (number e s) 0 ≡ true → changeAt e s ≡ planAt e s
+  unfolding pick
+  changed-plan q = changed ∙ rw q
+
+  changed-stop : eqb (number e s) 0 ≡ false → changeAt e s ≡ stopped (s .core) (number e s)
+  unfolding pick
+  changed-stop q = changed ∙ rw q
+
+  plan-stop : planAt e s .stop ≡ 0
+  unfolding planAt planOf comparePlan computePlan multiplyPlan loadIndexPlan indexStorePlan indexLoadPlan movePlan constantPlan loadRegisterPlan loadDirectPlan storeRegisterPlan storeDirectPlan portReadPlan portWritePlan portModifyPlan jumpPlan branchPlan jumpRegisterPlan branchRegisterPlan callPlan callRegisterPlan returnPlan returnConstantPlan enterBankPlan leaveBankPlan enterSpecialPlan leaveSpecialPlan
+  plan-stop =
+      let l = plans (viewOf e s) (partsAt e s) (factsAt e s) in
+      let k = factsAt e s .kind in
+      let zeros = column (λ (x : Change). x .stop) l in
+      let h : getD zeros k 0 < 1 = below-at 1 zeros k (omega arith) (omega arith) in
+      sym (column-at (λ (x : Change). x .stop) l k (moved (next (s .core)))) ∙ omega arith
+
+  -- a stop: the step is refused with it
+  pub refused-by : (x : Change) → x ≡ changeAt e s → (x .stop ≡ 0 → ⊥) → refused (x .stop) s ≡ advanceOf e s
+  unfolding advanceOf pick
+  refused-by x p h = go (eqb (number e s) 0) refl
+    where
+      go : (b : Bool) → eqb (number e s) 0 ≡ b → refused (x .stop) s ≡
+          pick b (record { number = 0; cycles = cyclesOf (e .config) (factsAt e s); state = applied (planAt e s) s }) (refused (number e s) s)
+      go true q =
+          absurd (h (ap (λ (y : Change). y .stop) (p ∙ changed-plan q) ∙ plan-stop))
+      go false q =
+          let z : x .stop ≡ number e s = ap (λ (y : Change). y .stop) (p ∙ changed-stop q) in
+          rw z
+
+  -- no stop: the change is carried out
+  pub carried-out : (x : Change) (k : ℕ) → x ≡ changeAt e s → x .stop ≡ 0 → k ≡ cyclesOf (e .config) (factsAt e s) →
+      _≡_ {A = Outcome} (record { number = 0; cycles = k; state = applied x s }) (advanceOf e s)
+  unfolding advanceOf pick
+  carried-out x k p h q = go (eqb (number e s) 0) refl
+    where
+      go : (b : Bool) → eqb (number e s) 0 ≡ b → _≡_ {A = Outcome} (record { number = 0; cycles = k; state = applied x s })
+          (pick b (record { number = 0; cycles = cyclesOf (e .config) (factsAt e s); state = applied (planAt e s) s }) (refused (number e s) s))
+      go true r =
+          let z : x ≡ planAt e s = p ∙ changed-plan r in
+          rw (z, q)
+      go false r =
+          let z : x .stop ≡ number e s = ap (λ (y : Change). y .stop) (p ∙ changed-stop r) in
+          absurd (eqb-false (number e s) 0 r (sym z ∙ h))
+
+  -- the code's sums are small
+  pub ready : Good e s → s .core .pc < e .config .imsize → Small (s .core) × (contextOf (s .core) < 4294967296)
+  unfolding contextOf
+  ready g h =
+      let b = bounds (e .config) (g .lawful) in
+      let m = g .core in (
+        record { pc = m .pc; wp = omega arith; rx = omega arith; depth = omega arith },
+        omega arith,
+      )
+
+-- the facts in a lent table's number
+pub facts-in : (packs : List ℕ) (p n : ℕ) → packs ≡ rowTable → p ≡ getD packs n noPacked → factsIn p ≡ factsOf n
+unfolding factsLent
+facts-in packs p n h q = rw (q, h) (facts-lent n)
+
+pub facts-made : (p n k o f c : ℕ) → factsIn p ≡ factsOf n → k ≡ factsIn p .kind → o ≡ factsIn p .operation → f ≡ factsIn p .form →
+    c ≡ factsIn p .condition → facts k o f c (marksOf k) ≡ factsOf n
+unfolding factsOf
+facts-made p n k o f c h a b d e =
+    rw (a ∙ ap (λ (x : Facts). x .kind) h, b ∙ ap (λ (x : Facts). x .operation) h, d ∙ ap (λ (x : Facts). x .form) h, e ∙ ap (λ (x : Facts). x .condition) h)

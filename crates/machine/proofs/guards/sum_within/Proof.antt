@@ -1,0 +1,14 @@
+-- `machine::guards::sum_within` meets its contract. Assumes nothing.
+use native.Mathlib.Omega.{arith}
+use borrow.Author.Tests.{lt-ltb, le-ltb, le-leb, lt-leb, eq-eqb, ne-eqb, not-true, not-false}
+use mathlib.Core.Path.{sym}
+use Prim.Native.Nat.{_+_, _<_}
+use borrow.Author.Needs.{needs}
+use Rattle.machine.proofs.guards.sum_within.Statement.{statement}
+use Rattle.machine.proofs.guards.sum_within.Tie as tie
+
+returns : tie.Need-returns
+returns c = let h : c .before .args .limit < c .before .args .a + c .before .args .b = omega arith in sym (lt-leb _ _ h)
+
+pub sum-within-spec : {M : Type 1} → statement M
+sum-within-spec = tie.close (tie.spec returns (λ c. search needs) (λ c. search needs))

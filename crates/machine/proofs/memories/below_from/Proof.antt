@@ -1,0 +1,45 @@
+-- `machine::memories::below_from` meets its contract. Assumes nothing.
+use native.Mathlib.Omega.{arith}
+use borrow.Author.Needs.{needs}
+use mathlib.Core.Path.{_≡_, refl, sym, _∙_}
+use Prim.Native.Nat.{_-_}
+use lib.ListN.{length, drop}
+use Rattle.laws.specs.Test.{below}
+use Rattle.machine.proofs.Cellwise.{below-further, below-ends, below-done}
+use Rattle.machine.proofs.memories.below_from.Statement.{statement}
+use Rattle.machine.proofs.memories.below_from.Tie as tie
+
+abbrev Inv-loop : tie.InvT-loop
+Inv-loop xs from bound i₀ i = below bound (drop i₀ xs) ≡ below bound (drop i xs)
+
+abbrev μ-loop : tie.MeasureT-loop
+μ-loop xs from bound i₀ i = length xs - i
+
+loop-holds : tie.Need-loop-holds Inv-loop μ-loop
+loop-holds c = refl
+
+shared-slice-read-x : tie.Need-shared-slice-read-x Inv-loop μ-loop
+shared-slice-read-x c = omega arith
+
+cast-x : tie.Need-cast-x Inv-loop μ-loop
+cast-x c = omega (arith, c .shared-slice-known .given (c .before .before .loop .i))
+
+returns : tie.Need-returns Inv-loop μ-loop
+returns c = below-ends _ _ _ (c .before .before .loop-test .taken) (c .if1 .taken) ∙ sym (c .before .before .before .loop .inv)
+
+add-i : tie.Need-add-i Inv-loop μ-loop
+add-i c = omega arith
+
+loop-less : tie.Need-loop-less Inv-loop μ-loop
+loop-less c = omega arith
+
+loop-again : tie.Need-loop-again Inv-loop μ-loop
+loop-again c = c .before .before .before .loop .inv ∙ below-further _ _ _ (c .before .before .loop-test .taken) (c .if1 .left)
+
+returns-2 : tie.Need-returns-2 Inv-loop μ-loop
+returns-2 c = below-done _ _ _ (c .loop-test .left) ∙ sym (c .before .loop .inv)
+
+pub below-from-spec : {M : Type 1} → statement M
+below-from-spec =
+    tie.close
+    (tie.spec Inv-loop μ-loop loop-holds (λ c. search needs) shared-slice-read-x cast-x returns add-i loop-less loop-again returns-2)
