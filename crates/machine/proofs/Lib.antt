@@ -4,3 +4,4 @@ pub mod Deciding
 pub mod Decided
 pub mod Cellwise
 pub mod Going
+pub mod Kept

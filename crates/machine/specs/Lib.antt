@@ -1,2 +1,3 @@
 pub mod Act
 pub mod Turns
+pub mod Promises

@@ -157,13 +157,19 @@ pub fn store_direct(m: Core, a: u32, x: u32) -> Change
     next(m).to_memory(a as usize, x)
 }
 
+// No write to another address than a is posted.
+fn near(m: Core, a: u32) -> bool
+    ensures { λ r. ⌜ r ≡ imp (eqb (m .posted) 1) (eqb (m .port) a) ⌝ }
+{
+    !(m.posted == 1) | (m.port == a as u64)
+}
+
 // A port read at address a: 9 straight after a write to another address, 14 with no input left.
 pub fn port_read(c: Config, m: Core, i: usize, a: u32, inputs: &[u32]) -> Change
     requires { ⌜ Small m ⌝ }
     ensures { λ r. ⌜ r ≡ choice (imp (eqb (m .posted) 1) (eqb (m .port) a)) (choice (ltb (m .taken) (length (now (inputs .entry)))) (toRegister (taking (next m)) i (getD (now (inputs .entry)) (m .taken) 0 % top c)) (stopped m 14)) (stopped m 9) ⌝ }
 {
-    let near = !(m.posted == 1) | (m.port == a as u64);
-    if !near {
+    if !near(m, a) {
         return m.stopped(9);
     }
     let t = m.taken;
@@ -179,8 +185,7 @@ pub fn port_modify(c: Config, m: Core, i: usize, a: u32, inputs: &[u32], room: u
     requires { ⌜ Small m ⌝ }
     ensures { λ r. ⌜ r ≡ choice (imp (eqb (m .posted) 1) (eqb (m .port) a)) (choice (ltb (m .taken) (length (now (inputs .entry)))) (choice (ltb (m .logged) room) (change (posting (logging (taking (next m))) 1 a) (write i (getD (now (inputs .entry)) (m .taken) 0 % top c)) none none (write (m .logged) a) (write (m .logged) (withTopBit c (getD (now (inputs .entry)) (m .taken) 0 % top c)))) (stopped m 15)) (stopped m 14)) (stopped m 9) ⌝ }
 {
-    let near = !(m.posted == 1) | (m.port == a as u64);
-    if !near {
+    if !near(m, a) {
         return m.stopped(9);
     }
     let t = m.taken;

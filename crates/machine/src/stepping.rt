@@ -3,9 +3,9 @@ ghost use mathlib.Core.Path.{_≡_};
 ghost use Prim.Native.Nat.{_≤_};
 ghost use lib.ListN.{length};
 ghost use Rattle.state.specs.State.{env, state};
-ghost use Rattle.state.specs.Step.{stepOf};
-ghost use Rattle.state.specs.Run.{runOf, runCall};
+ghost use Rattle.state.specs.Run.{runOf};
 ghost use Rattle.state.proofs.Good.{Good};
+ghost use Rattle.machine.specs.Promises.{Steps, Runs};
 ghost use Rattle.machine.specs.Turns.{Tables, machineState, stepped, endOf, turnsEnd, ranEnd};
 use crate::Ran;
 use crate::Stepped;
@@ -75,7 +75,7 @@ fn turns(
 }
 
 // One step: the refusals 1 to 15 in document 01's order, or the next machine and the step's cycles. Answer, machine, both memories and both lists of
-// the output log are `stepOf` of what was given.
+// the output log are `stepOf` of what was given; a refused step leaves them as they were.
 pub fn step(
     c: Config,
     image: &[u32],
@@ -86,7 +86,7 @@ pub fn step(
     addresses: &mut [u32],
     values: &mut [u32],
 ) -> Stepped
-    ensures { λ r. ⌜ stepped r (now (registers .exit)) (now (memory .exit)) (now (addresses .exit)) (now (values .exit)) ≡ stepOf (env c (now (image .entry)) (now (inputs .entry))) (machineState m (now (registers .entry)) (now (memory .entry)) (now (addresses .entry)) (now (values .entry))) ⌝ }
+    ensures { λ r. ⌜ Steps (env c (now (image .entry)) (now (inputs .entry))) (machineState m (now (registers .entry)) (now (memory .entry)) (now (addresses .entry)) (now (values .entry))) (stepped r (now (registers .exit)) (now (memory .exit)) (now (addresses .exit)) (now (values .exit))) ⌝ }
 {
     let core = m.core;
     let mut stack = m.stack;
@@ -147,7 +147,7 @@ pub fn run(
     values: &mut [u32],
     budget: u64,
 ) -> Ran
-    ensures { λ r. ⌜ ranEnd r (now (registers .exit)) (now (memory .exit)) (now (addresses .exit)) (now (values .exit)) ≡ endOf (runCall budget (env c (now (image .entry)) (now (inputs .entry))) (machineState m (now (registers .entry)) (now (memory .entry)) (now (addresses .entry)) (now (values .entry)))) ⌝ }
+    ensures { λ r. ⌜ Runs budget (env c (now (image .entry)) (now (inputs .entry))) (machineState m (now (registers .entry)) (now (memory .entry)) (now (addresses .entry)) (now (values .entry))) (ranEnd r (now (registers .exit)) (now (memory .exit)) (now (addresses .exit)) (now (values .exit))) ⌝ }
 {
     let core = m.core;
     let mut stack = m.stack;
