@@ -34,7 +34,7 @@ pub fn one(b: bool) -> u64
 }
 
 // 2^W.
-fn top_of(width: u32) -> u64
+pub fn top_of(width: u32) -> u64
     ensures { λ r. ⌜ (r ≡ 2 ^ bits width) × (0 < r) × (r ≤ 4294967296) ⌝ }
 {
     match width {

@@ -1,0 +1,62 @@
+-- What the code hands from step to step beside the memories, read as state's outcomes.
+use Prim.Native.Nat.{ℕ, _+_, _*_, _≤_, _<_}
+use mathlib.Core.Path.{_≡_}
+use mathlib.Core.List.{List}
+use lib.ListN.{length}
+use Rattle.words.specs.declared.Config.{Config}
+use Rattle.words.specs.Packed.{classTable, baseTable, rowTable}
+use Rattle.state.specs.declared.Core.{Core}
+use Rattle.state.specs.declared.Machine.{Machine}
+use Rattle.state.specs.State.{Env, State, state}
+use Rattle.state.specs.Step.{Outcome}
+use Rattle.state.specs.Run.{Run}
+use Rattle.machine.specs.declared.Turn.{Turn}
+use Rattle.machine.specs.declared.Turns.{Turns}
+use Rattle.machine.specs.declared.Stepped.{Stepped}
+use Rattle.machine.specs.declared.Ran.{Ran}
+
+-- the tables that are lent are the tables of words
+pub record Tables (classes bases packs : List ℕ) : Type 0 where
+  pub classes-right : classes ≡ classTable
+  pub bases-right : bases ≡ baseTable
+  pub packs-right : packs ≡ rowTable
+
+abbrev pub machineState : Machine → List ℕ → List ℕ → List ℕ → List ℕ → State
+machineState m registers memory addresses values = state (m .core) (m .stack) registers memory addresses values
+
+-- a step's answer and the buffers it left
+abbrev pub turned : Turn → List ℕ → List ℕ → List ℕ → List ℕ → List ℕ → Outcome
+turned t stack registers memory addresses values =
+    record { number = t .stop; cycles = t .cycles; state = state (t .core) stack registers memory addresses values }
+
+abbrev pub stepped : Stepped → List ℕ → List ℕ → List ℕ → List ℕ → Outcome
+stepped r registers memory addresses values =
+    record { number = r .number; cycles = r .cycles; state = machineState (r .machine) registers memory addresses values }
+
+-- how a run ended: what it answers and the state it left
+pub record End : Type 0 where
+  pub number : ℕ
+  pub steps : ℕ
+  pub cycles : ℕ
+  pub last : State
+
+abbrev pub endOf : Run → End
+endOf r = record { number = r .number; steps = r .steps; cycles = r .cycles; last = r .last }
+
+abbrev pub turnsEnd : Turns → List ℕ → List ℕ → List ℕ → List ℕ → List ℕ → End
+turnsEnd t stack registers memory addresses values =
+    record {
+      number = t .stop;
+      steps = t .steps;
+      cycles = t .cycles;
+      last = state (t .core) stack registers memory addresses values;
+    }
+
+abbrev pub ranEnd : Ran → List ℕ → List ℕ → List ℕ → List ℕ → End
+ranEnd r registers memory addresses values =
+    record {
+      number = r .number;
+      steps = r .steps;
+      cycles = r .cycles;
+      last = machineState (r .machine) registers memory addresses values;
+    }

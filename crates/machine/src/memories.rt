@@ -1,0 +1,54 @@
+// Writes to memories, and tests of whole memories.
+ghost use mathlib.Core.Path.{_≡_};
+ghost use Prim.Native.Nat.{_≤_};
+ghost use lib.ListN.{drop};
+ghost use Rattle.laws.specs.Test.{below};
+ghost use Rattle.state.specs.State.{state};
+ghost use Rattle.state.specs.Step.{putOf, applied};
+use state::Change;
+use state::Write;
+
+// A write, if it is on and its cell is there.
+fn put(xs: &mut [u32], w: Write)
+    ensures { λ _. ⌜ now (xs .exit) ≡ putOf w (now (xs .entry)) ⌝ }
+{
+    if w.on {
+        let at = w.at;
+        if at < xs.len() {
+            xs[at] = w.value;
+        }
+    }
+}
+
+// All writes of a change.
+pub fn commit(
+    x: Change,
+    stack: &mut [u32],
+    registers: &mut [u32],
+    memory: &mut [u32],
+    addresses: &mut [u32],
+    values: &mut [u32],
+)
+    ensures { λ _. ⌜ state (x .core) (now (stack .exit)) (now (registers .exit)) (now (memory .exit)) (now (addresses .exit)) (now (values .exit)) ≡ applied x (state (x .core) (now (stack .entry)) (now (registers .entry)) (now (memory .entry)) (now (addresses .entry)) (now (values .entry))) ⌝ }
+{
+    put(stack, x.stack);
+    put(registers, x.reg);
+    put(memory, x.dm);
+    put(addresses, x.logat);
+    put(values, x.logval);
+}
+
+// Whether every cell from `from` on is below the bound.
+pub fn below_from(xs: &[u32], from: usize, bound: u64) -> bool
+    ensures { λ r. ⌜ r ≡ below bound (drop from (now (xs .entry))) ⌝ }
+{
+    let mut i = from;
+    while i < xs.len() {
+        let x = xs[i] as u64;
+        if bound <= x {
+            return false;
+        }
+        i += 1;
+    }
+    true
+}

@@ -1,0 +1,201 @@
+// The public calls: one step, and a run.
+ghost use mathlib.Core.Path.{_≡_};
+ghost use Prim.Native.Nat.{_≤_};
+ghost use lib.ListN.{length};
+ghost use Rattle.state.specs.State.{env, state};
+ghost use Rattle.state.specs.Step.{stepOf};
+ghost use Rattle.state.specs.Run.{runOf, runCall};
+ghost use Rattle.state.proofs.Good.{Good};
+ghost use Rattle.machine.specs.Turns.{Tables, machineState, stepped, endOf, turnsEnd, ranEnd};
+use crate::Ran;
+use crate::Stepped;
+use crate::Turns;
+use crate::advance::advance;
+use crate::guards::refusal;
+use state::Core;
+use state::Machine;
+use words::Config;
+
+// Steps of a state that 1, 2 and 3 let pass, to the budget or to a stop.
+fn turns(
+    c: Config,
+    first: Core,
+    image: &[u32],
+    inputs: &[u32],
+    stack: &mut [u32],
+    registers: &mut [u32],
+    memory: &mut [u32],
+    addresses: &mut [u32],
+    values: &mut [u32],
+    budget: u64,
+) -> Turns
+    requires { ⌜ Good (env c (now image) (now inputs)) (state first (now stack) (now registers) (now memory) (now addresses) (now values)) × (budget ≤ 1000000) ⌝ }
+    ensures { λ r. ⌜ turnsEnd r (now (stack .exit)) (now (registers .exit)) (now (memory .exit)) (now (addresses .exit)) (now (values .exit)) ≡ endOf (runOf budget (env c (now (image .entry)) (now (inputs .entry))) (state first (now (stack .entry)) (now (registers .entry)) (now (memory .entry)) (now (addresses .entry)) (now (values .entry)))) ⌝ }
+{
+    let classes = words::class_table();
+    let bases = words::base_table();
+    let packs = words::row_table();
+    let mut core = first;
+    let mut left = budget;
+    let mut cycles: u64 = 0;
+    while 0 < left {
+        let t = advance(
+            c,
+            core,
+            &classes,
+            &bases,
+            &packs,
+            image,
+            inputs,
+            stack,
+            registers,
+            memory,
+            addresses,
+            values,
+        );
+        let next = t.core;
+        core = next;
+        if t.stop != 0 {
+            return Turns {
+                stop: t.stop,
+                steps: budget - left,
+                cycles,
+                core,
+            };
+        }
+        cycles = cycles + t.cycles;
+        left = left - 1;
+    }
+    Turns {
+        stop: 0,
+        steps: budget,
+        cycles,
+        core,
+    }
+}
+
+// One step: the refusals 1 to 15 in document 01's order, or the next machine and the step's cycles. Answer, machine, both memories and both lists of
+// the output log are `stepOf` of what was given.
+pub fn step(
+    c: Config,
+    image: &[u32],
+    inputs: &[u32],
+    m: Machine,
+    registers: &mut [u32],
+    memory: &mut [u32],
+    addresses: &mut [u32],
+    values: &mut [u32],
+) -> Stepped
+    ensures { λ r. ⌜ stepped r (now (registers .exit)) (now (memory .exit)) (now (addresses .exit)) (now (values .exit)) ≡ stepOf (env c (now (image .entry)) (now (inputs .entry))) (machineState m (now (registers .entry)) (now (memory .entry)) (now (addresses .entry)) (now (values .entry))) ⌝ }
+{
+    let core = m.core;
+    let mut stack = m.stack;
+    let n = refusal(
+        c,
+        core,
+        image,
+        inputs,
+        &stack,
+        registers,
+        memory,
+        addresses,
+        values,
+    );
+    if n != 0 {
+        return Stepped {
+            number: n,
+            cycles: 0,
+            machine: m,
+        };
+    }
+    let classes = words::class_table();
+    let bases = words::base_table();
+    let packs = words::row_table();
+    let t = advance(
+        c,
+        core,
+        &classes,
+        &bases,
+        &packs,
+        image,
+        inputs,
+        &mut stack,
+        registers,
+        memory,
+        addresses,
+        values,
+    );
+    let next = t.core;
+    let machine = Machine { core: next, stack };
+    Stepped {
+        number: t.stop,
+        cycles: t.cycles,
+        machine,
+    }
+}
+
+// A run: its steps one by one, to the budget or to the first that is stopped; 16 where the budget is above 1,000,000. The memories are looked through
+// once, before the first step.
+pub fn run(
+    c: Config,
+    image: &[u32],
+    inputs: &[u32],
+    m: Machine,
+    registers: &mut [u32],
+    memory: &mut [u32],
+    addresses: &mut [u32],
+    values: &mut [u32],
+    budget: u64,
+) -> Ran
+    ensures { λ r. ⌜ ranEnd r (now (registers .exit)) (now (memory .exit)) (now (addresses .exit)) (now (values .exit)) ≡ endOf (runCall budget (env c (now (image .entry)) (now (inputs .entry))) (machineState m (now (registers .entry)) (now (memory .entry)) (now (addresses .entry)) (now (values .entry)))) ⌝ }
+{
+    let core = m.core;
+    let mut stack = m.stack;
+    let n = refusal(
+        c,
+        core,
+        image,
+        inputs,
+        &stack,
+        registers,
+        memory,
+        addresses,
+        values,
+    );
+    if n != 0 {
+        return Ran {
+            number: n,
+            steps: 0,
+            cycles: 0,
+            machine: m,
+        };
+    }
+    if 1000000 < budget {
+        return Ran {
+            number: 16,
+            steps: 0,
+            cycles: 0,
+            machine: m,
+        };
+    }
+    let t = turns(
+        c,
+        core,
+        image,
+        inputs,
+        &mut stack,
+        registers,
+        memory,
+        addresses,
+        values,
+        budget,
+    );
+    let next = t.core;
+    let machine = Machine { core: next, stack };
+    Ran {
+        number: t.stop,
+        steps: t.steps,
+        cycles: t.cycles,
+        machine,
+    }
+}
