@@ -2,6 +2,8 @@
 ghost use Prim.Native.Nat.{_≤_};
 use crate::input::number;
 use crate::print;
+use machine::Ran;
+use machine::Stepped;
 use state::Core;
 use state::Machine;
 use words::Config;
@@ -75,6 +77,14 @@ fn clear(to: &mut [u32]) {
     }
 }
 
+// How many of n there are before the last `left`.
+fn passed(n: u32, left: u32) -> usize {
+    if left < n {
+        return place(n - left);
+    }
+    0
+}
+
 // A list: its length, and as many numbers.
 pub fn list(to: &mut [u32]) -> usize {
     clear(to);
@@ -82,7 +92,7 @@ pub fn list(to: &mut [u32]) -> usize {
     let mut left = n;
     while 0 < left {
         let value = number();
-        put(to, place(n) - place(left), value);
+        put(to, passed(n, left), value);
         left -= 1;
     }
     place(n)
@@ -145,6 +155,67 @@ pub fn machine() -> Machine {
     Machine { core, stack }
 }
 
+// A step on the parts of the lists that are lent.
+fn step_lent(
+    s: Setting,
+    image: &[u32],
+    inputs: &[u32],
+    registers: &mut [u32],
+    memory: &mut [u32],
+    addresses: &mut [u32],
+    values: &mut [u32],
+) -> Stepped {
+    let config = s.config;
+    let m = s.machine;
+    let words = s.length(0, image.len());
+    let given = s.length(1, inputs.len());
+    let cells = s.length(2, registers.len());
+    let data = s.length(3, memory.len());
+    let places = s.length(4, addresses.len());
+    let room = s.length(5, values.len());
+    machine::step(
+        config,
+        &image[..words],
+        &inputs[..given],
+        m,
+        &mut registers[..cells],
+        &mut memory[..data],
+        &mut addresses[..places],
+        &mut values[..room],
+    )
+}
+
+fn run_lent(
+    s: Setting,
+    image: &[u32],
+    inputs: &[u32],
+    registers: &mut [u32],
+    memory: &mut [u32],
+    addresses: &mut [u32],
+    values: &mut [u32],
+    budget: u64,
+) -> Ran {
+    let config = s.config;
+    let m = s.machine;
+    let words = s.length(0, image.len());
+    let given = s.length(1, inputs.len());
+    let cells = s.length(2, registers.len());
+    let data = s.length(3, memory.len());
+    let places = s.length(4, addresses.len());
+    let room = s.length(5, values.len());
+    machine::run(
+        config,
+        &image[..words],
+        &inputs[..given],
+        m,
+        &mut registers[..cells],
+        &mut memory[..data],
+        &mut addresses[..places],
+        &mut values[..room],
+        budget,
+    )
+}
+
 pub fn step_case(
     s: Setting,
     image: &[u32; 256],
@@ -154,28 +225,11 @@ pub fn step_case(
     addresses: &mut [u32; 64],
     values: &mut [u32; 64],
 ) -> Setting {
-    let config = s.config;
-    let before = s.machine;
-    let words = s.length(0, 256);
-    let given = s.length(1, 64);
-    let cells = s.length(2, 1024);
-    let data = s.length(3, 2048);
-    let places = s.length(4, 64);
-    let room = s.length(5, 64);
     let old_registers = *registers;
     let old_memory = *memory;
     let old_addresses = *addresses;
     let old_values = *values;
-    let r = machine::step(
-        config,
-        &image[..words],
-        &inputs[..given],
-        before,
-        &mut registers[..cells],
-        &mut memory[..data],
-        &mut addresses[..places],
-        &mut values[..room],
-    );
+    let r = step_lent(s, image, inputs, registers, memory, addresses, values);
     let after = r.machine;
     print::put_step(r.number, r.cycles);
     print::put_machine(after);
@@ -197,27 +251,18 @@ pub fn run_case(
     values: &mut [u32; 64],
 ) -> Setting {
     let budget = wide(number());
-    let config = s.config;
-    let before = s.machine;
-    let words = s.length(0, 256);
-    let given = s.length(1, 64);
-    let cells = s.length(2, 1024);
-    let data = s.length(3, 2048);
-    let places = s.length(4, 64);
-    let room = s.length(5, 64);
     let old_registers = *registers;
     let old_memory = *memory;
     let old_addresses = *addresses;
     let old_values = *values;
-    let r = machine::run(
-        config,
-        &image[..words],
-        &inputs[..given],
-        before,
-        &mut registers[..cells],
-        &mut memory[..data],
-        &mut addresses[..places],
-        &mut values[..room],
+    let r = run_lent(
+        s,
+        image,
+        inputs,
+        registers,
+        memory,
+        addresses,
+        values,
         budget,
     );
     let after = r.machine;
