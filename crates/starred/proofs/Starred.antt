@@ -2,11 +2,24 @@
 use Rattle.laws.specs.Choice.{pick}
 use Rattle.words.specs.Configs.{lawful}
 use Rattle.words.specs.Parts.{limit, available}
+use Rattle.words.specs.Kinds.{marks, marksOf}
 use Rattle.words.specs.Rows.{rows, rowAt}
+use Rattle.words.specs.Facts.{factsOf}
 use Rattle.words.specs.Classes.{classOf, fieldOf, codeAt, choices, rowIn, rowOf}
 use Rattle.words.specs.Words.{flagIn, layoutOf, upperIn, lowerIn, valueIn, fieldsIn, spread, fits, refusals567, refusals, answered, partsBy, partsOf, readOf}
+use Rattle.arith.specs.Width.{bits, one}
+use Rattle.arith.specs.Sums.{addOf, difference, subOf, signed, subsOf}
+use Rattle.arith.specs.Shifts.{shlOf, shrOf}
+use Rattle.arith.specs.Unary.{absOf, leadingZeroBits, clzOf}
+use Rattle.arith.specs.Multiply.{mulOf}
+use Rattle.arith.specs.Alu.{aluOf}
+use Rattle.state.specs.State.{stackLimit}
+use Rattle.state.specs.Ranges.{inRanges, guards}
+use Rattle.state.specs.Plans.{contextOf, enterBankPlan, planOf}
+use Rattle.state.specs.Stops.{stops9to15, stops}
+use Rattle.state.specs.Step.{number, putOf, applied, planAt, advanceOf, stepOf}
 use Rattle.starred.specs.Cases.{StarredCases}
 
 pub starred-cases : StarredCases
-unfolding pick lawful limit available rows rowAt classOf fieldOf codeAt choices rowIn rowOf flagIn layoutOf upperIn lowerIn valueIn fieldsIn spread fits refusals567 refusals answered partsBy partsOf readOf
+unfolding pick lawful limit available marks marksOf rows rowAt factsOf classOf fieldOf codeAt choices rowIn rowOf flagIn layoutOf upperIn lowerIn valueIn fieldsIn spread fits refusals567 refusals answered partsBy partsOf readOf bits one addOf difference subOf signed subsOf shlOf shrOf absOf leadingZeroBits clzOf mulOf aluOf stackLimit inRanges guards contextOf enterBankPlan planOf stops9to15 stops number putOf applied planAt advanceOf stepOf
 starred-cases = tt

@@ -4,10 +4,10 @@ use Rattle.yam_cases.proofs.main.Statement.{statement}
 use Rattle.yam_cases.proofs.main.Tie as tie
 
 abbrev Inv-loop : tie.InvT-loop
-Inv-loop c₀ left₀ c left = Unit {0}
+Inv-loop image₀ inputs₀ registers₀ memory₀ addresses₀ values₀ s₀ left₀ image inputs registers memory addresses values s left = Unit {0}
 
 abbrev μ-loop : tie.MeasureT-loop
-μ-loop c₀ left₀ c left = left
+μ-loop image₀ inputs₀ registers₀ memory₀ addresses₀ values₀ s₀ left₀ image inputs registers memory addresses values s left = left
 
 pub main-spec : {M : Type 1} → statement M
 main-spec =
