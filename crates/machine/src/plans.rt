@@ -84,13 +84,12 @@ fn index_core(c: Config, m: Core, bit26: u32) -> Core
     requires { ⌜ Small m ⌝ }
     ensures { λ r. ⌜ r ≡ flagged (advanced c (next m)) bit26 (flag (eqb (m .rx) (m .ry))) 0 ⌝ }
 {
+    let equal = one(m.rx == m.ry);
     let x = m.rx + 1;
     if x == c.regsize as usize {
-        return next(m).indexed(0, m.ry)
-            .flagged(bit26, one(m.rx == m.ry), 0);
+        return next(m).indexed(0, m.ry).flagged(bit26, equal, 0);
     }
-    next(m).indexed(x, m.ry)
-        .flagged(bit26, one(m.rx == m.ry), 0)
+    next(m).indexed(x, m.ry).flagged(bit26, equal, 0)
 }
 
 // MOVX to DM: a is the address register's value, x the value of the register that RX names.

@@ -8,13 +8,13 @@ use Rattle.machine.proofs.plans.index_core.Tie as tie
 
 returns : tie.Need-returns
 unfolding advanced pick
-returns c = simp (c .flagged .ensures, c .before .before .before .indexed .ensures, c .before .before .before .before .next .ensures, c .before .one .ensures .0, eq-eqb _ _ (c .before .before .before .before .before .if1 .taken))
+returns c = simp (c .flagged .ensures, c .before .indexed .ensures, c .before .before .next .ensures, c .before .before .before .before .before .before .one .ensures .0, eq-eqb _ _ (c .before .before .before .if1 .taken))
 
 returns-2 : tie.Need-returns-2
 unfolding advanced pick
-returns-2 c = simp (c .flagged2 .ensures, c .before .before .before .indexed2 .ensures, c .before .before .before .before .next2 .ensures, c .before .one2 .ensures .0, ne-eqb _ _ (c .before .before .before .before .before .if1 .left))
+returns-2 c = simp (c .flagged2 .ensures, c .before .indexed2 .ensures, c .before .before .next2 .ensures, c .before .before .before .before .before .before .one .ensures .0, ne-eqb _ _ (c .before .before .before .if1 .left))
 
 pub index-core-spec : {M : Type 1} → statement M
 index-core-spec =
     tie.close
-    (tie.spec (λ c. search needs) (λ c. search needs) (λ c κs. search needs) (λ c κs. search needs) (λ c κs. search needs) (λ c κs. search needs) returns (λ c κs. search needs) (λ c κs. search needs) (λ c κs. search needs) (λ c κs. search needs) returns-2)
+    (tie.spec (λ c κs. search needs) (λ c. search needs) (λ c. search needs) (λ c κs. search needs) (λ c κs. search needs) (λ c κs. search needs) returns (λ c κs. search needs) (λ c κs. search needs) (λ c κs. search needs) returns-2)
