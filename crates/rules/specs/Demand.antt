@@ -1,0 +1,56 @@
+-- Demand 3, whole: one claim about every list of calls.
+use Prim.Native.Nat.{ℕ, _<_, _≤_}
+use mathlib.Core.Path.{_≡_}
+use mathlib.Core.List.{List, [], _∷_}
+use lib.ListN.{length}
+use Rattle.laws.specs.Test.{Below, Member}
+use Rattle.laws.specs.First.{Every}
+use Rattle.words.specs.declared.Config.{Config}
+use Rattle.state.specs.State.{State, env, state, top, resetMachine}
+use Rattle.rules.specs.Check.{checkOf, passed}
+use Rattle.rules.specs.Calls.{Call, step, run, Done, trace}
+
+-- what a call may answer: it passes, or stops "by a data address taken from a register (13), a missing reading (14) or a full log (15); a run may
+-- also be refused by 16"
+pub data May : Call → ℕ → Type 0 where
+  passes : {c : Call} → May c 0
+  no-data : {c : Call} → May c 13
+  no-input : {c : Call} → May c 14
+  no-room : {c : Call} → May c 15
+  too-long : {b : ℕ} → 1000000 < b → May (run b) 16
+
+-- a call and what it came to: its answer is allowed, and the return stack never holds more than l addresses, "not even within a run"
+pub record Fine (l : ℕ) (d : Call × Done) : Type 0 where
+  pub answer : May (d .0) (d .1 .number)
+  pub stack : Every (λ (s : State). s .core .depth ≤ l) (d .1 .through)
+
+-- a machine at reset with these memories and this log
+abbrev pub atReset : List ℕ → List ℕ → List ℕ → List ℕ → State
+atReset registers memory addresses values = state (resetMachine .core) (resetMachine .stack) registers memory addresses values
+
+-- P of the trace of every list of calls "from a machine at reset", "Whatever the readings at the port", with "memories of the right length whose cells
+-- fit the word width, and two log lists of equal length"
+abbrev pub Always : Config → List ℕ → (List (Call × Done) → Type 0) → Type 0
+Always c image P =
+    (inputs registers memory addresses values : List ℕ) (calls : List Call) →
+    length registers ≡ c .rmsize →
+    Below (top c) registers →
+    length memory ≡ c .dmsize →
+    Below (top c) memory →
+    length addresses ≡ length values →
+    P (trace (env c image inputs) calls (atReset registers memory addresses values))
+
+abbrev pub Safe : Config → List ℕ → ℕ → Type 0
+Safe c image l = Always c image (Every (Fine l))
+
+abbrev pub Demand3 : Type 0
+Demand3 = (c : Config) (image certificate : List ℕ) (l : ℕ) → checkOf c image certificate ≡ passed l → Safe c image l
+
+-- in the calls' answers alone: no other number, and no deeper stack in what they hand back
+pub record Answered (l : ℕ) (d : Call × Done) : Type 0 where
+  pub number : Member (d .1 .number) (0 ∷ 13 ∷ 14 ∷ 15 ∷ 16 ∷ [])
+  pub stack : d .1 .last .core .depth ≤ l
+
+abbrev pub Demand3Answers : Type 0
+Demand3Answers =
+    (c : Config) (image certificate : List ℕ) (l : ℕ) → checkOf c image certificate ≡ passed l → Always c image (Every (Answered l))

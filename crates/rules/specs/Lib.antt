@@ -1,0 +1,5 @@
+pub mod Marks
+pub mod Rules
+pub mod Check
+pub mod Calls
+pub mod Demand
