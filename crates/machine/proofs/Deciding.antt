@@ -3,7 +3,7 @@
 use Prim.Native.Nat.{ℕ, _+_, _*_, _/_, _≤_, _<_}
 use mathlib.Core.Path.{_≡_, refl, sym, ap, _∙_}
 use mathlib.Core.Bool.{Bool, true, false}
-use mathlib.Core.List.{List, [], _∷_, _++_}
+use mathlib.Core.List.{List, [], _∷_, _++_, append-nil}
 use native.Mathlib.Omega.{arith}
 use borrow.Author.Tests.{lt-ltb, le-ltb, eq-eqb, ne-eqb, eqb-false}
 use lib.Dec.{T, ltb, eqb, ltb→lt}
@@ -55,17 +55,7 @@ unless-first (r ∷ rs) ys m x t =
 
 pub unless-all : (xs : List (ℕ × Test)) (m : Core) (x : Change) → T (positive xs) →
     unless xs m x ≡ pick (eqb (first-failing xs) 0) x (stopped m (first-failing xs))
-unfolding pick
-unless-all [] m x t = refl
-unless-all (r ∷ rs) m x t =
-    go (test (r .1)) (unless-all rs m x (and-right (ltb 0 (r .0)) (positive rs) t))
-    (ltb→lt 0 (r .0) (and-left (ltb 0 (r .0)) (positive rs) t))
-  where
-    go : (b : Bool) → unless rs m x ≡ pick (eqb (first-failing rs) 0) x (stopped m (first-failing rs)) → 0 < r .0 →
-        pick b (unless rs m x) (stopped m (r .0)) ≡
-        pick (eqb (pick b (first-failing rs) (r .0)) 0) x (stopped m (pick b (first-failing rs) (r .0)))
-    go true ih h = ih
-    go false ih h = simp (ne-eqb (r .0) 0 (λ e. omega arith))
+unless-all xs m x t = ap (λ (l : List (ℕ × Test)). unless l m x) (sym (append-nil xs)) ∙ unless-first xs [] m x t
 
 pub not-zero : (x : Refusal) → refusalNumber x ≡ 0 → ⊥
 unfolding refusalNumber
