@@ -1,2 +1,4 @@
 pub mod Exact
 pub mod Moves
+pub mod Kept
+pub mod Control

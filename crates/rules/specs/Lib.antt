@@ -3,3 +3,4 @@ pub mod Rules
 pub mod Check
 pub mod Calls
 pub mod Demand
+pub mod Invariant
