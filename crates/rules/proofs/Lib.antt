@@ -2,3 +2,5 @@ pub mod Exact
 pub mod Moves
 pub mod Kept
 pub mod Control
+pub mod Stepping
+pub mod Demand
