@@ -4,3 +4,4 @@ pub mod Kept
 pub mod Control
 pub mod Stepping
 pub mod Demand
+pub mod Cases

@@ -4,3 +4,4 @@ pub mod Check
 pub mod Calls
 pub mod Demand
 pub mod Invariant
+pub mod Cases
