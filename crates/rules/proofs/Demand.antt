@@ -17,12 +17,14 @@ use Rattle.state.specs.Step.{Outcome, refused, advanceOf, stepOf}
 use Rattle.state.specs.Run.{Run, ended, after, runOf, runCall}
 use Rattle.state.proofs.Good.{Bounds, bounds, top-byte, Good, good, valid, passes}
 use Rattle.rules.specs.Marks.{markAt, levelOf}
-use Rattle.rules.specs.Check.{checkOf, passed, Passes}
+use Rattle.rules.specs.Check.{Answer, checkOf, passed, Passes}
 use Rattle.rules.specs.Calls.{Call, step, run, Done, callOf, trace}
 use Rattle.rules.specs.Demand.{May, no-data, no-input, no-room, too-long, Fine, atReset, Demand3, Answered, Demand3Answers}
 use Rattle.rules.specs.Demand as demand
+use Rattle.rules.specs.Claims.{Checks}
 use Rattle.rules.specs.Invariant.{Spot, Control, Invariant}
 use Rattle.rules.proofs.Exact.{exact}
+use Rattle.rules.proofs.First.{names-first}
 use Rattle.rules.proofs.Stepping.{Start, start, advanced-keeps, advanced-allowed, low}
 
 -- a fact of every state of a list, and of one more
@@ -208,3 +210,15 @@ pub demand-3-answers : Demand3Answers
 demand-3-answers c image certificate l pass inputs registers memory addresses values calls rl rb ml mb ll =
     trace-answered l (env c image inputs) calls (atReset registers memory addresses values)
     (demand-3 c image certificate l pass inputs registers memory addresses values calls rl rb ml mb ll)
+
+-- what the check promises follows from its answer
+pub checks : (c : Config) (image certificate : List ℕ) (r : Answer) → r ≡ checkOf c image certificate → Checks c image certificate r
+checks c image certificate r e =
+    let x = exact c image certificate in
+    record {
+      answer = e;
+      sound = λ z. x .sound (rw e at z);
+      complete = λ p. e ∙ x .complete p;
+      first = rw e (names-first c image certificate);
+      demand3 = λ l p. demand-3 c image certificate l (sym e ∙ p);
+    }
