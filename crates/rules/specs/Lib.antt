@@ -3,3 +3,6 @@ pub mod Rules
 pub mod Check
 pub mod Calls
 pub mod Demand
+pub mod Claims
+pub mod Invariant
+pub mod Cases

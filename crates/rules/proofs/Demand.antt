@@ -1,0 +1,224 @@
+-- Demand 3: the invariant holds at reset, along every run and along every list of calls.
+-- Assumes nothing.
+use Prim.Native.Nat.{ℕ, zero, suc, _+_, _<_, _≤_}
+use mathlib.Core.Path.{_≡_, refl, _∙_, sym, ap}
+use mathlib.Core.Logic.{_⊎_, inl, inr}
+use mathlib.Core.List.{List, [], _∷_, _++_}
+use native.Mathlib.Omega.{arith}
+use lib.Dec.{T, eqb, leb, not-T, nleb→lt}
+use lib.ListN.{length, replicate, length-replicate}
+use Rattle.laws.specs.Choice.{pick, pick-yes, either}
+use Rattle.laws.specs.Test.{Below, Member, eq→eqb, Holds}
+use Rattle.laws.specs.First.{Every, first-failing, skip}
+use Rattle.words.specs.declared.Config.{Config}
+use Rattle.state.specs.State.{Env, State, env, top, resetMachine}
+use Rattle.state.specs.Ranges.{guards, budgetFits}
+use Rattle.state.specs.Step.{Outcome, refused, advanceOf, stepOf}
+use Rattle.state.specs.Run.{Run, ended, after, runOf, runCall}
+use Rattle.state.proofs.Good.{Bounds, bounds, top-byte, Good, good, valid, passes}
+use Rattle.rules.specs.Marks.{markAt, levelOf}
+use Rattle.rules.specs.Check.{Answer, checkOf, passed, Passes}
+use Rattle.rules.specs.Calls.{Call, step, run, Done, callOf, trace}
+use Rattle.rules.specs.Demand.{May, no-data, no-input, no-room, too-long, Fine, atReset, Demand3, Answered, Demand3Answers}
+use Rattle.rules.specs.Demand as demand
+use Rattle.rules.specs.Claims.{Checks}
+use Rattle.rules.specs.Invariant.{Spot, Control, Invariant}
+use Rattle.rules.proofs.Exact.{exact}
+use Rattle.rules.proofs.First.{names-first}
+use Rattle.rules.proofs.Stepping.{Start, start, advanced-keeps, advanced-allowed, low}
+
+-- a fact of every state of a list, and of one more
+every-last : (P : State → Type 0) (ss : List State) (s : State) → Every P ss → P s → Every P (ss ++ (s ∷ []))
+every-last P [] s h p = (p, tt)
+every-last P (x ∷ ss) s h p = (h .0, every-last P ss s (h .1) p)
+
+zeros-below : (b n : ℕ) → 0 < b → Below b (replicate n 0)
+zeros-below b zero h = tt
+zeros-below b (suc n) h = (h, zeros-below b n h)
+
+module _ (e : Env) (certificate : List ℕ) (ok : Passes (e .config) (e .image) certificate) where
+  abbrev Low : State → Type 0
+  Low s = s .core .depth ≤ levelOf (markAt certificate 0)
+
+  -- a run goes well: its number is allowed, the stack is low in every state it steps from, and the invariant holds where it ends
+  pub record Well (c : Call) (r : Run) : Type 0 where
+    pub number : May c (r .number)
+    pub seen : Every Low (r .seen)
+    pub last : Invariant e certificate (r .last)
+
+  pub run-well : (c : Call) (budget : ℕ) (s : State) → Invariant e certificate s → Well c (runOf budget e s)
+  unfolding runOf
+  run-well c zero s v = record { number = demand.passes; seen = tt; last = v }
+  run-well c (suc k) s v =
+      let o = advanceOf e s in
+      let h = run-well c k (o .state) (advanced-keeps e certificate ok s v) in
+      either (Well c) (eqb (o .number) 0) (after s (o .cycles) (runOf k e (o .state))) (ended (o .number) s)
+      (λ t. record { number = h .number; seen = (low e certificate ok s v, h .seen); last = h .last })
+      (λ f. record { number = advanced-allowed e certificate ok s v (May c) demand.passes no-data no-input no-room; seen = tt; last = v })
+
+  -- so does a run call: of 1, 2, 3 and 16 only 16 can refuse it, where its budget is too large
+  budget-allowed : (budget : ℕ) → May (run budget) (first-failing ((16, budgetFits budget) ∷ []))
+  budget-allowed budget =
+      either (May (run budget)) (leb budget 1000000) 0 16 (λ t. demand.passes)
+      (λ f. too-long (nleb→lt budget 1000000 (not-T (leb budget 1000000) f)))
+
+  pub run-call-well : (budget : ℕ) (s : State) → Invariant e certificate s → Well (run budget) (runCall budget e s)
+  unfolding runCall
+  run-call-well budget s v =
+      let n = first-failing (guards e s ++ ((16, budgetFits budget) ∷ [])) in
+      let m : May (run budget) n = rw (skip (guards e s) ((16, budgetFits budget) ∷ []) (v .valid)) (budget-allowed budget) in
+      either (Well (run budget)) (eqb n 0) (runOf budget e s) (ended n s) (λ t. run-well (run budget) budget s v)
+      (λ f. record { number = m; seen = tt; last = v })
+
+  -- a call goes well
+  pub record Good-call (c : Call) (d : Done) : Type 0 where
+    pub fine : Fine (levelOf (markAt certificate 0)) (c, d)
+    pub last : Invariant e certificate (d .last)
+
+  not-refused : (s : State) → Invariant e certificate s → stepOf e s ≡ advanceOf e s
+  unfolding stepOf
+  not-refused s v =
+      let n = first-failing (guards e s) in
+      pick-yes (eqb n 0) (advanceOf e s) (refused n s) (eq→eqb n 0 (passes e s (good e s (v .valid))))
+
+  pub call-well : (c : Call) (s : State) → Invariant e certificate s → Good-call c (callOf e c s)
+  unfolding callOf
+  call-well step s v =
+      let w = advanced-keeps e certificate ok s v in
+      rw (not-refused s v)
+      (record {
+        fine =
+            record {
+              answer = advanced-allowed e certificate ok s v (May step) demand.passes no-data no-input no-room;
+              stack = (low e certificate ok s v, (low e certificate ok (advanceOf e s .state) w, tt));
+            };
+        last = w;
+      })
+  call-well (run budget) s v =
+      let h = run-call-well budget s v in
+      let r = runCall budget e s in
+      record {
+        fine =
+            record { answer = h .number; stack = every-last Low (r .seen) (r .last) (h .seen) (low e certificate ok (r .last) (h .last)) };
+        last = h .last;
+      }
+
+  -- and so does every list of calls
+  pub trace-fine : (calls : List Call) (s : State) → Invariant e certificate s → Every (Fine (levelOf (markAt certificate 0))) (trace e calls s)
+  unfolding trace
+  trace-fine [] s v = tt
+  trace-fine (c ∷ calls) s v =
+      let h = call-well c s v in
+      (h .fine, trace-fine calls (callOf e c s .last) (h .last))
+
+  -- the machine at reset
+  module _ (registers memory addresses values : List ℕ)
+      (rl : length registers ≡ e .config .rmsize) (rb : Below (top (e .config)) registers)
+      (ml : length memory ≡ e .config .dmsize) (mb : Below (top (e .config)) memory)
+      (ll : length addresses ≡ length values) where
+    reset-good : Good e (atReset registers memory addresses values)
+    reset-good =
+        let b = bounds (e .config) (ok .lawful) in
+        let w : 0 < top (e .config) = omega (arith, top-byte (e .config)) in
+        record {
+          lawful = ok .lawful;
+          image = ok .image-long;
+          registers = rl;
+          memory = ml;
+          log = ll;
+          core =
+              record {
+                pc = omega arith;
+                bank = record { whole = refl; inside = omega (arith, b .one-bank) };
+                indices = record { x = omega (arith, b .registers-some); y = omega (arith, b .registers-some) };
+                flags = record { negative = omega arith; zero = omega arith };
+                high = record { word = w; none = λ z. refl };
+                depth = omega arith;
+                masks = record { now = omega arith; kept = omega arith; special = omega arith };
+                posted = record { mark = omega arith; word = w; none = λ z. refl };
+                taken = omega arith;
+                logged = omega arith;
+              };
+          addresses = zeros-below (e .config .imsize + 1) 63 (omega arith);
+          zeros = zeros-below 1 63 (omega arith);
+          cells = rb;
+          words = mb;
+        }
+
+    pub reset-holds : Invariant e certificate (atReset registers memory addresses values)
+    reset-holds =
+        let z = start e certificate ok in
+        record {
+          control =
+              record {
+                here =
+                    record {
+                      below = bounds (e .config) (ok .lawful) .image-some;
+                      used = z .used;
+                      level = omega arith;
+                      sub = omega (arith, z .main);
+                      mode = z .normal;
+                    };
+                saved = λ j h. let x : ⊥ = omega arith in absurd x;
+                places = length-replicate {A = ℕ} 63 0;
+                quiet = λ q t. omega arith;
+              };
+          valid = valid e (atReset registers memory addresses values) reset-good;
+        }
+
+-- the user's demand 3
+pub demand-3 : Demand3
+demand-3 c image certificate l pass inputs registers memory addresses values calls rl rb ml mb ll =
+    let e = env c image inputs in
+    let x = exact c image certificate in
+    let ok = x .sound (ap (λ a. a .number) pass) in
+    let q : levelOf (markAt certificate 0) ≡ l = ap (λ a. a .level) (sym (x .complete ok) ∙ pass) in
+    rw (← q)
+    (trace-fine e certificate ok calls (atReset registers memory addresses values)
+    (reset-holds e certificate ok registers memory addresses values rl rb ml mb ll))
+
+-- in the calls' answers alone
+
+may-answer : (c : Call) (n : ℕ) → May c n → Member n (0 ∷ 13 ∷ 14 ∷ 15 ∷ 16 ∷ [])
+may-answer c n demand.passes = inl refl
+may-answer c n no-data = inr (inl refl)
+may-answer c n no-input = inr (inr (inl refl))
+may-answer c n no-room = inr (inr (inr (inl refl)))
+may-answer c n (too-long h) = inr (inr (inr (inr refl)))
+
+-- the state that a call leaves is the last that it passes through
+last-low : (P : State → Type 0) (ss : List State) (s : State) → Every P (ss ++ (s ∷ [])) → P s
+last-low P [] s h = h .0
+last-low P (x ∷ ss) s h = last-low P ss s (h .1)
+
+call-answered : (l : ℕ) (e : Env) (c : Call) (s : State) → Fine l (c, callOf e c s) → Answered l (c, callOf e c s)
+unfolding callOf
+call-answered l e step s h = record { number = may-answer step (stepOf e s .number) (h .answer); stack = h .stack .1 .0 }
+call-answered l e (run budget) s h =
+    let r = runCall budget e s in
+    record {
+      number = may-answer (run budget) (r .number) (h .answer);
+      stack = last-low (λ (t : State). t .core .depth ≤ l) (r .seen) (r .last) (h .stack);
+    }
+
+trace-answered : (l : ℕ) (e : Env) (calls : List Call) (s : State) → Every (Fine l) (trace e calls s) → Every (Answered l) (trace e calls s)
+unfolding trace
+trace-answered l e [] s h = tt
+trace-answered l e (c ∷ calls) s h = (call-answered l e c s (h .0), trace-answered l e calls (callOf e c s .last) (h .1))
+
+pub demand-3-answers : Demand3Answers
+demand-3-answers c image certificate l pass inputs registers memory addresses values calls rl rb ml mb ll =
+    trace-answered l (env c image inputs) calls (atReset registers memory addresses values)
+    (demand-3 c image certificate l pass inputs registers memory addresses values calls rl rb ml mb ll)
+
+-- what the check promises follows from its answer
+pub checks : (c : Config) (image certificate : List ℕ) (r : Answer) → r ≡ checkOf c image certificate → Checks c image certificate r
+checks c image certificate r e =
+    let x = exact c image certificate in
+    record {
+      answer = e;
+      sound = λ z. x .sound (rw e at z);
+      complete = λ p. e ∙ x .complete p;
+      first = rw e (names-first c image certificate);
+      demand3 = λ l p. demand-3 c image certificate l (sym e ∙ p);
+    }

@@ -1,0 +1,131 @@
+-- Cases of the check, computed: a certificate that passes, and copies of it and of its program, each changed in one or two places, with what the check
+-- answers. One for each clause of each rule.
+use Prim.Native.Nat.{ℕ}
+use mathlib.Core.Bool.{Bool, true, _&&_}
+use mathlib.Core.List.{List, [], _∷_}
+use lib.Dec.{T, eqb}
+use lib.ListN.{set}
+use Rattle.words.specs.declared.Config.{Config}
+use Rattle.rules.specs.Check.{Answer, passed, refused, broken, checkOf}
+
+-- every option; the return stack holds 3 addresses
+abbrev pub small : Config
+small =
+    record {
+      imwidth = 32;
+      imsize = 9;
+      regwidth = 32;
+      regsize = 16;
+      rmsize = 64;
+      pcstack = 4;
+      dmsize = 32;
+      dmpipe = 0;
+      alulevel = 2;
+      alumult = 1;
+      aluspr = 1;
+      iopif = 1;
+      ioprmw = 1;
+      yamclk = 0;
+      yamsreg3 = 0;
+      alu3op = 0;
+      irqif = 0;
+      copmsize = 0;
+      yamdbg = 0;
+    }
+
+abbrev pub program : List ℕ
+program =
+    0xf0800005 ∷  -- 0 JSR 5
+    0xb8010002 ∷  -- 1 MOVIO @%01,%02
+    0xa0030004 ∷  -- 2 MOV %03,%04
+    0xc0800002 ∷  -- 3 JMP 2,Z
+    0xc0000004 ∷  -- 4 JMP 4
+    0xf0050000 ∷  -- 5 SPR_ON
+    0xa0050007 ∷  -- 6 MOV %05,%07
+    0xf0040000 ∷  -- 7 SPR_OFF
+    0xf0000000 ∷  -- 8 RET
+    []
+
+abbrev pub certificate : List ℕ
+certificate = 1 ∷ 0 ∷ 0 ∷ 0 ∷ 0 ∷ 64 ∷ 192 ∷ 192 ∷ 64 ∷ []
+
+-- the word w at address a, or the mark x there
+pub data Change : Type 0 where
+  word : ℕ → ℕ → Change
+  mark : ℕ → ℕ → Change
+
+abbrev pub programBy : List Change → List ℕ
+programBy [] = program
+programBy (word a w ∷ cs) = set (programBy cs) a w
+programBy (mark a x ∷ cs) = programBy cs
+
+abbrev pub certificateBy : List Change → List ℕ
+certificateBy [] = certificate
+certificateBy (word a w ∷ cs) = certificateBy cs
+certificateBy (mark a x ∷ cs) = set (certificateBy cs) a x
+
+abbrev pub cases : List (List Change × Answer)
+cases =
+    ([], passed 1) ∷
+    -- 1
+    (mark 0 255 ∷ [], broken 0 1) ∷
+    (mark 0 65 ∷ [], broken 0 1) ∷
+    (mark 0 129 ∷ [], broken 0 1) ∷
+    -- 2
+    (mark 0 4 ∷ [], broken 0 2) ∷
+    (mark 0 3 ∷ [], passed 3) ∷
+    (mark 0 4 ∷ word 0 0x58000000 ∷ [], broken 0 2) ∷
+    -- 3: no row; JMP @, JSR @, JSRWP, RETWP
+    (word 2 0x58000000 ∷ [], broken 2 3) ∷
+    (word 2 0xc8010000 ∷ [], broken 2 3) ∷
+    (word 2 0xf8810000 ∷ [], broken 2 3) ∷
+    (word 2 0xf1020002 ∷ [], broken 2 3) ∷
+    (word 2 0xf0010000 ∷ [], broken 2 3) ∷
+    -- 4: next unused, target unused, next past the end, target past the end
+    (mark 1 255 ∷ [], broken 0 4) ∷
+    (mark 5 255 ∷ [], broken 0 4) ∷
+    (word 8 0xa0030004 ∷ [], broken 8 4) ∷
+    (word 4 0xc0000009 ∷ [], broken 4 4) ∷
+    -- 5: JSR to main, its next a subroutine, a jump and a fall out of main, RET in main
+    (mark 5 0 ∷ [], broken 0 5) ∷
+    (mark 1 64 ∷ [], broken 0 5) ∷
+    (word 4 0xc0000005 ∷ [], broken 4 5) ∷
+    (word 4 0xa0030004 ∷ [], broken 4 5) ∷
+    (word 4 0xf0000000 ∷ [], broken 4 5) ∷
+    (word 0 0xf0800001 ∷ mark 1 64 ∷ [], broken 0 5) ∷  -- target and next in one
+    -- 6: next higher, target higher, JSR's target no lower
+    (mark 1 2 ∷ [], broken 0 6) ∷
+    (word 4 0xc0000000 ∷ [], broken 4 6) ∷
+    (mark 0 0 ∷ [], broken 0 6) ∷
+    (mark 0 0 ∷ mark 1 4 ∷ [], broken 0 6) ∷  -- and not 2 at address 1
+    -- 7: SPR_ON in special mode, its successor normal, after SPR_OFF special, another register in special mode, a JMP and a MOV that change the mode
+    (word 6 0xf0050000 ∷ [], broken 6 7) ∷
+    (mark 6 64 ∷ [], broken 5 7) ∷
+    (mark 8 192 ∷ [], broken 7 7) ∷
+    (word 6 0xa0050004 ∷ [], broken 6 7) ∷
+    (mark 2 128 ∷ [], broken 1 7) ∷
+    (word 8 0xc0000007 ∷ [], broken 8 7) ∷
+    -- 8: a port read and an IORMW after a port write, a port read after an IORMW
+    (word 2 0xb1030004 ∷ [], broken 1 8) ∷
+    (word 2 0xb1038004 ∷ [], broken 1 8) ∷
+    (word 1 0xb1038004 ∷ word 2 0xb1030004 ∷ [], broken 1 8) ∷
+    (word 2 0xb1038084 ∷ [], broken 2 3) ∷  -- an unused bit set: it cannot be read, and is no port read
+    -- an unused address may hold anything
+    (word 4 0x58000000 ∷ word 3 0xc0000002 ∷ mark 4 255 ∷ [], passed 1) ∷
+    -- the first address, and its lowest rule
+    (word 4 0x58000000 ∷ word 2 0xb1030004 ∷ [], broken 1 8) ∷
+    []
+
+abbrev pub same-answer : Answer → Answer → Bool
+same-answer x y = eqb (x .number) (y .number) && (eqb (x .address) (y .address) && (eqb (x .rule) (y .rule) && eqb (x .level) (y .level)))
+
+abbrev pub right : List Change × Answer → Bool
+right c = same-answer (checkOf small (programBy (c .0)) (certificateBy (c .0))) (c .1)
+
+abbrev pub all-right : List (List Change × Answer) → Bool
+all-right [] = true
+all-right (c ∷ cs) = right c && all-right cs
+
+-- the one claim
+abbrev pub CertificateCases : Type 0
+CertificateCases = T (all-right cases)
