@@ -1,0 +1,27 @@
+-- `certificate::searching::check_answer` meets its contract. Assumes nothing.
+use mathlib.Core.Path.{sym, _∙_}
+use borrow.Author.Tests.{not-true, not-false}
+use Rattle.laws.specs.Test.{test}
+use lib.ListN.{length}
+use Rattle.rules.specs.Check.{sized}
+use Rattle.certificate.specs.Answers.{answerOf}
+use Rattle.certificate.proofs.Search.{unlawful, unsized, searched}
+use borrow.Author.Needs.{needs}
+use Rattle.certificate.proofs.searching.check_answer.Statement.{statement}
+use Rattle.certificate.proofs.searching.check_answer.Tie as tie
+
+returns : tie.Need-returns
+unfolding answerOf
+returns c = unlawful (c .before .before .before .before .args .c) (c .before .before .before .before .args .image .now) (c .before .before .before .before .args .certificate .now) (sym (c .before .lawful .ensures) ∙ not-true (c .before .lawful .result) (c .if1 .taken))
+
+returns-2 : tie.Need-returns-2
+unfolding answerOf
+returns-2 c = unsized (c .before .before .before .before .before .before .args .c) (c .before .before .before .before .before .before .args .image .now) (c .before .before .before .before .before .before .args .certificate .now) (sym (c .before .before .before .lawful .ensures) ∙ not-false (c .before .before .before .lawful .result) (c .before .before .if1 .left)) (not-true (test (sized (c .before .before .before .before .before .before .args .c) (length (c .before .before .before .before .before .before .args .image .now)) (length (c .before .before .before .before .before .before .args .certificate .now)))) (c .if2 .taken))
+
+returns-3 : tie.Need-returns-3
+returns-3 c = c .first-broken .ensures ∙ searched (c .before .before .before .before .before .before .before .before .before .before .before .before .before .args .c) (c .before .before .before .before .before .before .before .before .before .before .before .before .before .args .image .now) (c .before .before .before .before .before .before .before .before .before .before .before .before .before .args .certificate .now) (sym (c .before .before .before .before .before .before .before .before .before .before .lawful .ensures) ∙ not-false (c .before .before .before .before .before .before .before .before .before .before .lawful .result) (c .before .before .before .before .before .before .before .before .before .if1 .left)) (not-false (test (sized (c .before .before .before .before .before .before .before .before .before .before .before .before .before .args .c) (length (c .before .before .before .before .before .before .before .before .before .before .before .before .before .args .image .now)) (length (c .before .before .before .before .before .before .before .before .before .before .before .before .before .args .certificate .now)))) (c .before .before .before .before .before .before .before .if2 .left))
+
+pub check-answer-spec : {M : Type 1} → statement M
+check-answer-spec =
+    tie.close
+    (tie.spec (λ c κs. search needs) returns (λ c. search needs) returns-2 (λ c κs. search needs) (λ c κs. search needs) (λ c κs. search needs) (λ c. search needs) (λ c. search needs) (λ c. search needs) (λ c κs. search needs) returns-3)

@@ -1,0 +1,114 @@
+// The search for the first address that breaks a rule.
+ghost use mathlib.Core.Path.{_≡_};
+ghost use mathlib.Core.Bool.{not};
+ghost use Prim.Native.Nat.{_<_};
+ghost use Rattle.laws.specs.Test.{imp};
+ghost use Rattle.rules.specs.Marks.{markAt, levelOf};
+ghost use Rattle.rules.specs.Rules.{readsPort};
+ghost use Rattle.rules.specs.Check.{passed, lowest, firstBroken, checkOf};
+ghost use Rattle.certificate.specs.Answers.{answerOf};
+ghost use Rattle.certificate.specs.Reading.{Tables};
+use crate::Checked;
+use crate::judging::lowest_rule;
+use crate::reading::look;
+use crate::reading::mark_at;
+use crate::reading::word_at;
+use state::Machine;
+use words::Config;
+
+// Whether rule 8 holds: the next word is read only after a port write or IORMW.
+fn rule_8(
+    c: Config,
+    classes: &[u8],
+    bases: &[u32],
+    packs: &[u64],
+    image: &[u32],
+    next: usize,
+    output: bool,
+) -> bool
+    requires { ⌜ Tables (now classes) (now bases) (now packs) ⌝ }
+    ensures { λ r. ⌜ r ≡ imp output (not (readsPort c (now (image .entry)) next)) ⌝ }
+{
+    if !output {
+        return true;
+    }
+    let l = look(c, classes, bases, packs, word_at(image, next));
+    let f = words::facts_in(l.packed);
+    !((l.number == 0) & f.input)
+}
+
+// The lowest rule that address a breaks by itself or its successors; 0: none.
+fn rule_at(
+    c: Config,
+    classes: &[u8],
+    bases: &[u32],
+    packs: &[u64],
+    image: &[u32],
+    certificate: &[u8],
+    a: usize,
+) -> u32
+    requires { ⌜ Tables (now classes) (now bases) (now packs) × (a < 4294967296) ⌝ }
+    ensures { λ r. ⌜ r ≡ lowest c (now (image .entry)) (now (certificate .entry)) a ⌝ }
+{
+    let l = look(c, classes, bases, packs, word_at(image, a));
+    let f = words::facts_in(l.packed);
+    let target = l.value as usize;
+    let next = a + 1;
+    lowest_rule(
+        a == 0,
+        c.imsize as usize,
+        Machine::stack_limit(c.pcstack),
+        next,
+        l.number,
+        l.source,
+        target,
+        f,
+        mark_at(certificate, a),
+        mark_at(certificate, next),
+        mark_at(certificate, target),
+        rule_8(c, classes, bases, packs, image, next, f.output),
+    )
+}
+
+// The first address that breaks a rule, with its lowest rule; where there is none, a pass with the level at address 0. One look a word, and
+// one more where the word before it writes to a port.
+fn first_broken(
+    c: Config,
+    classes: &[u8],
+    bases: &[u32],
+    packs: &[u64],
+    image: &[u32],
+    certificate: &[u8],
+) -> Checked
+    requires { ⌜ Tables (now classes) (now bases) (now packs) ⌝ }
+    ensures { λ r. ⌜ answerOf r ≡ firstBroken (lowest c (now (image .entry)) (now (certificate .entry))) (passed (levelOf (markAt (now (certificate .entry)) 0))) (c .imsize) 0 ⌝ }
+{
+    let size = c.imsize as usize;
+    let mut a = 0;
+    while a < size {
+        let rule = rule_at(c, classes, bases, packs, image, certificate, a);
+        if rule != 0 {
+            let address = a as u32;
+            return Checked::Broken(address, rule);
+        }
+        a += 1;
+    }
+    Checked::Passed(mark_at(certificate, 0) % 64)
+}
+
+// The check's answer: 1, 2, or what the search finds.
+fn check_answer(c: Config, image: &[u32], certificate: &[u8]) -> Checked
+    ensures { λ r. ⌜ answerOf r ≡ checkOf c (now (image .entry)) (now (certificate .entry)) ⌝ }
+{
+    if !c.lawful() {
+        return Checked::Unlawful;
+    }
+    let size = c.imsize as usize;
+    if !((image.len() == size) & (certificate.len() == size)) {
+        return Checked::WrongLength;
+    }
+    let classes = words::class_table();
+    let bases = words::base_table();
+    let packs = words::row_table();
+    first_broken(c, &classes, &bases, &packs, image, certificate)
+}
