@@ -2,7 +2,9 @@
 
 mod judging;
 mod reading;
-mod searching;
+pub mod searching;
+
+pub use searching::check;
 
 // What the check answers: the level at address 0; document 01's 1; its 2; its 17, with the address and its lowest rule.
 pub enum Checked {

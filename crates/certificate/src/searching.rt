@@ -5,6 +5,7 @@ ghost use Prim.Native.Nat.{_<_};
 ghost use Rattle.laws.specs.Test.{imp};
 ghost use Rattle.rules.specs.Marks.{markAt, levelOf};
 ghost use Rattle.rules.specs.Rules.{readsPort};
+ghost use Rattle.rules.specs.Claims.{Checks};
 ghost use Rattle.rules.specs.Check.{passed, lowest, firstBroken, checkOf};
 ghost use Rattle.certificate.specs.Answers.{answerOf};
 ghost use Rattle.certificate.specs.Reading.{Tables};
@@ -111,4 +112,12 @@ fn check_answer(c: Config, image: &[u32], certificate: &[u8]) -> Checked
     let bases = words::base_table();
     let packs = words::row_table();
     first_broken(c, &classes, &bases, &packs, image, certificate)
+}
+
+// The check of a certificate: exactly when it passes, the configuration is lawful, the lengths are right and the eight rules hold; and then demand 3
+// holds of the program, with the level that it answers.
+pub fn check(c: Config, image: &[u32], certificate: &[u8]) -> Checked
+    ensures { λ r. ⌜ Checks c (now (image .entry)) (now (certificate .entry)) (answerOf r) ⌝ }
+{
+    check_answer(c, image, certificate)
 }
