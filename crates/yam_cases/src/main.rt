@@ -4,6 +4,9 @@
 //   k  the configuration of the cases that follow: 19 numbers in the order of words::Config
 //   r  reads a word: the word; prints the word, document 01's number, and the parts row, flag, destination, source, number, value
 //   w  writes parts: row, flag, destination, source, number, value; prints the parts, the number and the word
+// Cases of certificates:
+//   t  checks: an image and a certificate, each a length and as many numbers, under the configuration; prints document 01's number, and but for 1 and 2
+//      the address and rule that it names and the level at address 0
 // Cases of steps give a state first, and keep what a call leaves for the next call:
 //   i, p, a, v  the image, the inputs, the log's addresses, the log's values: a length and as many numbers
 //   g, d  register memory, data memory: the length, a count, and as many pairs of cell and value; the other cells are 0
@@ -14,6 +17,7 @@
 //   u  a run: its budget; prints the number, steps and cycles, then as for a step
 // Lists hold at most 256 words of image, 64 inputs, 64 places of log, 1,024 registers, 2,048 data cells and 63 addresses: what is beyond is left out.
 // From # to the end of a line is a comment, which is printed as it stands.
+mod check_cases;
 mod input;
 mod print;
 mod step_cases;
@@ -22,12 +26,16 @@ mod word_cases;
 use step_cases::Setting;
 use words::Config;
 
+// A case that needs a configuration alone.
 fn word_case(b: u32, c: Config) {
     if b == 114 {
         word_cases::read_case(c);
     }
     if b == 119 {
         word_cases::write_case(c);
+    }
+    if b == 116 {
+        check_cases::check_case(c);
     }
 }
 

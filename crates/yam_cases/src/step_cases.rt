@@ -57,7 +57,7 @@ pub fn no_setting() -> Setting {
     }
 }
 
-fn place(n: u32) -> usize {
+pub fn place(n: u32) -> usize {
     n as usize
 }
 
@@ -78,7 +78,7 @@ fn clear(to: &mut [u32]) {
 }
 
 // How many of n there are before the last `left`.
-fn passed(n: u32, left: u32) -> usize {
+pub fn passed(n: u32, left: u32) -> usize {
     if left < n {
         return place(n - left);
     }

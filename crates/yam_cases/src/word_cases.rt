@@ -73,7 +73,7 @@ pub fn config() -> Config {
     }
 }
 
-fn put(n: u32) {
+pub fn put(n: u32) {
     io::write_all(1, b" ");
     io::print_hex(1, n as u64, 1);
 }
