@@ -4,8 +4,13 @@ use Prim.Native.Nat.{ℕ}
 use mathlib.Core.Bool.{Bool, true, _&&_}
 use mathlib.Core.List.{List, [], _∷_}
 use lib.Dec.{T, eqb}
-use lib.ListN.{set}
+use mathlib.Core.Path.{_≡_}
+use lib.ListN.{length, replicate, set}
+use Rattle.laws.specs.Lists.{column}
 use Rattle.words.specs.declared.Config.{Config}
+use Rattle.state.specs.State.{env}
+use Rattle.rules.specs.Calls.{Call, step, run, Done, trace}
+use Rattle.rules.specs.Demand.{atReset}
 use Rattle.rules.specs.Check.{Answer, passed, refused, broken, checkOf}
 
 -- every option; the return stack holds 3 addresses
@@ -129,3 +134,21 @@ all-right (c ∷ cs) = right c && all-right cs
 -- the one claim
 abbrev pub CertificateCases : Type 0
 CertificateCases = T (all-right cases)
+
+-- A list of calls from reset on the program above, with room for one entry in the log: the number that each answers, the PC and the return stack that it
+-- leaves, and how many states it passes through.
+abbrev pub calls : List Call
+calls = step ∷ run 1000001 ∷ run 4 ∷ step ∷ run 100 ∷ []
+
+abbrev pub summary : Call × Done → List ℕ
+summary d = d .1 .number ∷ d .1 .last .core .pc ∷ d .1 .last .core .depth ∷ length (d .1 .through) ∷ []
+
+abbrev pub CallCases : Type 0
+CallCases =
+    column summary (trace (env small program []) calls (atReset (replicate 64 0) (replicate 32 0) (0 ∷ []) (0 ∷ []))) ≡
+    ((0 ∷ 5 ∷ 1 ∷ 2 ∷ []) ∷  -- step: JSR 5
+    (16 ∷ 5 ∷ 1 ∷ 1 ∷ []) ∷  -- a run whose budget is too large
+    (0 ∷ 1 ∷ 0 ∷ 5 ∷ []) ∷  -- a run of four: SPR_ON, MOV, SPR_OFF, RET
+    (0 ∷ 2 ∷ 0 ∷ 2 ∷ []) ∷  -- step: MOVIO, which fills the log
+    (0 ∷ 4 ∷ 0 ∷ 101 ∷ []) ∷  -- a run that comes to JMP 4
+    [])
