@@ -8,10 +8,24 @@ use Rattle.words.specs.Classes.{classOf, fieldOf, codeAt, choices, rowIn, rowOf
 use Rattle.words.specs.Words.{flagIn, layoutOf, upperIn, lowerIn, valueIn, fieldsIn, spread, fits, refusals567, answered, partsBy, readBy, readLawful}
 use Rattle.words.specs.Facts.{factsOf}
 use Rattle.state.specs.State.{stackLimit}
+use mathlib.Core.Path.{refl}
+use Rattle.words.specs.Words.{partsOf}
+use Rattle.arith.specs.Width.{bits, one}
+use Rattle.state.specs.Ranges.{inRanges, guards}
+use Rattle.state.specs.Operands.{operand, operations, operationOf, conditionMet, log2, specialRegister}
+use Rattle.state.specs.Plans.{jumpPlan, branchPlan, callPlan, returnPlan, enterSpecialPlan, leaveSpecialPlan, movePlan, portWritePlan, planOf}
+use Rattle.state.specs.Stops.{stops9to15, stops}
+use Rattle.state.specs.Step.{number, putOf, applied, planAt, cyclesOf, advanceOf, stepOf}
+use Rattle.state.specs.Run.{runOf, runCall}
+use Rattle.rules.specs.Calls.{callOf, trace}
 use Rattle.rules.specs.Rules.{rules}
 use Rattle.rules.specs.Check.{firstBroken, checkOf}
-use Rattle.rules.specs.Cases.{CertificateCases}
+use Rattle.rules.specs.Cases.{CertificateCases, CallCases}
 
 pub certificate-cases : CertificateCases
 unfolding pick lawful limit available marks marksOf rows rowAt classOf fieldOf codeAt choices rowIn rowOf flagIn layoutOf upperIn lowerIn valueIn fieldsIn spread fits refusals567 answered partsBy readBy readLawful factsOf stackLimit rules firstBroken checkOf
 certificate-cases = tt
+
+pub call-cases : CallCases
+unfolding pick lawful limit available marks marksOf rows rowAt classOf fieldOf codeAt choices rowIn rowOf flagIn layoutOf upperIn lowerIn valueIn fieldsIn spread fits refusals567 partsBy partsOf factsOf stackLimit inRanges guards operand operations operationOf conditionMet log2 specialRegister jumpPlan branchPlan callPlan returnPlan enterSpecialPlan leaveSpecialPlan movePlan portWritePlan planOf stops9to15 stops number putOf applied planAt cyclesOf advanceOf stepOf runOf runCall callOf trace bits one
+call-cases = refl

@@ -2,22 +2,27 @@
 -- answers. One for each clause of each rule.
 use Prim.Native.Nat.{ℕ}
 use mathlib.Core.Bool.{Bool, true, _&&_}
-use mathlib.Core.List.{List, [], _∷_}
+use mathlib.Core.List.{List, [], _∷_, _++_}
 use lib.Dec.{T, eqb}
-use lib.ListN.{set}
+use mathlib.Core.Path.{_≡_}
+use lib.ListN.{length, replicate, set}
+use Rattle.laws.specs.Lists.{column}
 use Rattle.words.specs.declared.Config.{Config}
+use Rattle.state.specs.State.{env}
+use Rattle.rules.specs.Calls.{Call, step, run, Done, trace}
+use Rattle.rules.specs.Demand.{atReset}
 use Rattle.rules.specs.Check.{Answer, passed, refused, broken, checkOf}
 
--- every option; the return stack holds 3 addresses
-abbrev pub small : Config
-small =
+-- every option, and a PC_STACK
+abbrev pub small : ℕ → Config
+small stack =
     record {
       imwidth = 32;
       imsize = 9;
       regwidth = 32;
       regsize = 16;
       rmsize = 64;
-      pcstack = 4;
+      pcstack = stack;
       dmsize = 32;
       dmpipe = 0;
       alulevel = 2;
@@ -49,24 +54,45 @@ program =
 abbrev pub certificate : List ℕ
 certificate = 1 ∷ 0 ∷ 0 ∷ 0 ∷ 0 ∷ 64 ∷ 192 ∷ 192 ∷ 64 ∷ []
 
--- the word w at address a, or the mark x there
+-- the word w at address a, or the mark x there; a word or a mark more; another PC_STACK
 pub data Change : Type 0 where
   word : ℕ → ℕ → Change
   mark : ℕ → ℕ → Change
+  word-more : Change
+  mark-more : Change
+  pc-stack : ℕ → Change
+
+abbrev pub configBy : List Change → Config
+configBy [] = small 4
+configBy (word a w ∷ cs) = configBy cs
+configBy (mark a x ∷ cs) = configBy cs
+configBy (word-more ∷ cs) = configBy cs
+configBy (mark-more ∷ cs) = configBy cs
+configBy (pc-stack n ∷ cs) = small n
 
 abbrev pub programBy : List Change → List ℕ
 programBy [] = program
 programBy (word a w ∷ cs) = set (programBy cs) a w
 programBy (mark a x ∷ cs) = programBy cs
+programBy (word-more ∷ cs) = programBy cs ++ (0xf0000000 ∷ [])
+programBy (mark-more ∷ cs) = programBy cs
+programBy (pc-stack n ∷ cs) = programBy cs
 
 abbrev pub certificateBy : List Change → List ℕ
 certificateBy [] = certificate
 certificateBy (word a w ∷ cs) = certificateBy cs
 certificateBy (mark a x ∷ cs) = set (certificateBy cs) a x
+certificateBy (word-more ∷ cs) = certificateBy cs
+certificateBy (mark-more ∷ cs) = certificateBy cs ++ (64 ∷ [])
+certificateBy (pc-stack n ∷ cs) = certificateBy cs
 
 abbrev pub cases : List (List Change × Answer)
 cases =
     ([], passed 1) ∷
+    -- the configuration before the lengths, and these before the rules
+    (pc-stack 65 ∷ mark-more ∷ [], refused 1) ∷
+    (mark-more ∷ mark 0 255 ∷ [], refused 2) ∷
+    (word-more ∷ [], refused 2) ∷
     -- 1
     (mark 0 255 ∷ [], broken 0 1) ∷
     (mark 0 65 ∷ [], broken 0 1) ∷
@@ -74,6 +100,8 @@ cases =
     -- 2
     (mark 0 4 ∷ [], broken 0 2) ∷
     (mark 0 3 ∷ [], passed 3) ∷
+    (mark 0 2 ∷ pc-stack 1 ∷ [], broken 0 2) ∷
+    (word 3 0xc0000002 ∷ mark 4 4 ∷ [], broken 4 2) ∷  -- where control never comes
     (mark 0 4 ∷ word 0 0x58000000 ∷ [], broken 0 2) ∷
     -- 3: no row; JMP @, JSR @, JSRWP, RETWP
     (word 2 0x58000000 ∷ [], broken 2 3) ∷
@@ -120,7 +148,7 @@ abbrev pub same-answer : Answer → Answer → Bool
 same-answer x y = eqb (x .number) (y .number) && (eqb (x .address) (y .address) && (eqb (x .rule) (y .rule) && eqb (x .level) (y .level)))
 
 abbrev pub right : List Change × Answer → Bool
-right c = same-answer (checkOf small (programBy (c .0)) (certificateBy (c .0))) (c .1)
+right c = same-answer (checkOf (configBy (c .0)) (programBy (c .0)) (certificateBy (c .0))) (c .1)
 
 abbrev pub all-right : List (List Change × Answer) → Bool
 all-right [] = true
@@ -129,3 +157,21 @@ all-right (c ∷ cs) = right c && all-right cs
 -- the one claim
 abbrev pub CertificateCases : Type 0
 CertificateCases = T (all-right cases)
+
+-- A list of calls from reset on the program above, with room for one entry in the log: the number that each answers, the PC and the return stack that it
+-- leaves, and how many states it passes through.
+abbrev pub calls : List Call
+calls = step ∷ run 1000001 ∷ run 4 ∷ step ∷ run 100 ∷ []
+
+abbrev pub summary : Call × Done → List ℕ
+summary d = d .1 .number ∷ d .1 .last .core .pc ∷ d .1 .last .core .depth ∷ length (d .1 .through) ∷ []
+
+abbrev pub CallCases : Type 0
+CallCases =
+    column summary (trace (env (small 4) program []) calls (atReset (replicate 64 0) (replicate 32 0) (0 ∷ []) (0 ∷ []))) ≡
+    ((0 ∷ 5 ∷ 1 ∷ 2 ∷ []) ∷  -- step: JSR 5
+    (16 ∷ 5 ∷ 1 ∷ 1 ∷ []) ∷  -- a run whose budget is too large
+    (0 ∷ 1 ∷ 0 ∷ 5 ∷ []) ∷  -- a run of four: SPR_ON, MOV, SPR_OFF, RET
+    (0 ∷ 2 ∷ 0 ∷ 2 ∷ []) ∷  -- step: MOVIO, which fills the log
+    (0 ∷ 4 ∷ 0 ∷ 101 ∷ []) ∷  -- a run that comes to JMP 4
+    [])
