@@ -3,7 +3,6 @@
 use Prim.Native.Nat.{ℕ, _<_}
 use mathlib.Core.Path.{_≡_, sym, ap, _∙_}
 use mathlib.Core.List.{List}
-use lib.ListN.{getD}
 use Rattle.words.specs.declared.Config.{Config}
 use Rattle.words.specs.declared.Instruction.{Instruction}
 use Rattle.words.specs.declared.Refusal.{Refusal}
@@ -11,22 +10,15 @@ use Rattle.words.specs.declared.Reading.{Reading}
 use Rattle.words.specs.declared.Reading.the-variants.{Decoded, Refused}
 use Rattle.words.specs.Words.{Read, readLawful}
 use Rattle.words.specs.Answers.{refusalNumber, readingOf}
-use Rattle.words.specs.Packed.{noPacked, rowTable, readLent}
-use Rattle.words.specs.Facts.{factsOf, factsIn, factsLent}
-use Rattle.words.proofs.Lent.{lent, facts-lent}
+use Rattle.words.specs.Packed.{Tables, readLent}
+use Rattle.words.specs.Facts.{factsOf, factsIn}
+use Rattle.words.proofs.Lent.{read-lent}
 use Rattle.certificate.specs.declared.reading.Parts.{Parts}
-use Rattle.certificate.specs.Reading.{Tables, PartsOf}
+use Rattle.certificate.specs.Reading.{PartsOf}
 
 pub read-here : (cs bs ps : List ℕ) (c : Config) (w : ℕ) (r s : Reading) → Tables cs bs ps → w < 0x100000000 → r ≡ s →
     readingOf r ≡ readLent cs bs ps c w → readingOf s ≡ readLawful c w
-read-here cs bs ps c w r s t h q e =
-    let f = rw (t .classes-right, t .bases-right, t .packs-right) at e in
-    sym (ap readingOf q) ∙ (f ∙ lent c w h)
-
--- the facts in a lent table's number
-pub facts-in : (packs : List ℕ) (p n : ℕ) → packs ≡ rowTable → p ≡ getD packs n noPacked → factsIn p ≡ factsOf n
-unfolding factsLent
-facts-in packs p n h q = rw (q, h) (facts-lent n)
+read-here cs bs ps c w r s t h q e = sym (ap readingOf q) ∙ read-lent cs bs ps c w r t h e
 
 pub refused-parts : (c : Config) (w : ℕ) (x : Refusal) (number packed : ℕ) → readingOf (Refused x) ≡ readLawful c w → number ≡ refusalNumber x →
     factsIn packed ≡ factsOf 0 → PartsOf c w (record { number = number; source = 0; value = 0; packed = packed })

@@ -1,18 +1,10 @@
 -- What the check takes from a word.
 use Prim.Native.Nat.{ℕ}
 use mathlib.Core.Path.{_≡_}
-use mathlib.Core.List.{List}
 use Rattle.words.specs.declared.Config.{Config}
-use Rattle.words.specs.Packed.{classTable, baseTable, rowTable}
 use Rattle.words.specs.Words.{readLawful}
 use Rattle.words.specs.Facts.{factsOf, factsIn}
 use Rattle.certificate.specs.declared.reading.Parts.{Parts}
-
--- the tables that are lent are the tables of words
-pub record Tables (classes bases packs : List ℕ) : Type 0 where
-  pub classes-right : classes ≡ classTable
-  pub bases-right : bases ≡ baseTable
-  pub packs-right : packs ≡ rowTable
 
 -- the parts of word w as it is read, and its row's facts; of one that cannot be read, those of zeros
 pub record PartsOf (c : Config) (w : ℕ) (l : Parts) : Type 0 where

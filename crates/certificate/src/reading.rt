@@ -2,7 +2,8 @@
 ghost use mathlib.Core.Path.{_≡_};
 ghost use lib.ListN.{getD};
 ghost use Rattle.rules.specs.Marks.{markAt};
-ghost use Rattle.certificate.specs.Reading.{Tables, PartsOf};
+ghost use Rattle.certificate.specs.Reading.{PartsOf};
+ghost use Rattle.words.specs.Packed.{Tables};
 use words::Config;
 use words::Reading;
 

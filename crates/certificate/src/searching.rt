@@ -8,7 +8,7 @@ ghost use Rattle.rules.specs.Rules.{readsPort};
 ghost use Rattle.rules.specs.Claims.{Checks};
 ghost use Rattle.rules.specs.Check.{passed, lowest, firstBroken, checkOf};
 ghost use Rattle.certificate.specs.Answers.{answerOf};
-ghost use Rattle.certificate.specs.Reading.{Tables};
+ghost use Rattle.words.specs.Packed.{Tables};
 use crate::Checked;
 use crate::judging::lowest_rule;
 use crate::reading::look;

@@ -16,9 +16,9 @@ use Rattle.words.specs.declared.Reading.the-variants.{Decoded}
 use Rattle.words.specs.Kinds.{marksOf}
 use Rattle.words.specs.Words.{readLawful}
 use Rattle.words.specs.Answers.{readingOf}
-use Rattle.words.specs.Packed.{readLent}
+use Rattle.words.specs.Packed.{Tables, readLent}
 use Rattle.words.specs.Facts.{facts, factsOf, factsIn}
-use Rattle.words.proofs.Lent.{lent}
+use Rattle.words.proofs.Lent.{read-lent}
 use Rattle.arith.specs.Width.{one}
 use Rattle.state.specs.declared.Core.{Core}
 use Rattle.state.specs.declared.Change.{Change}
@@ -28,7 +28,6 @@ use Rattle.state.specs.Operands.{viewOf}
 use Rattle.state.specs.Stops.{stop8, factsAt}
 use Rattle.state.specs.Step.{cyclesOf}
 use Rattle.machine.specs.Act.{act, changeAt}
-use Rattle.machine.specs.Turns.{Tables}
 use Rattle.machine.proofs.Deciding.{read-parts, readable, facts-made}
 
 -- a stop is no pass
@@ -38,9 +37,7 @@ halted x m n p h z = absurd (h (sym (ap (λ (y : Change). y .stop) p) ∙ z))
 -- by the tables of words, what is read is what the definition reads
 pub read-here : (cs bs ps : List ℕ) (c : Config) (image : List ℕ) (pc w : ℕ) (r : Reading) → Tables cs bs ps → w < 0x100000000 →
     w ≡ getD image pc 0 → readingOf r ≡ readLent cs bs ps c w → readingOf r ≡ readLawful c (getD image pc 0)
-read-here cs bs ps c image pc w r t h q e =
-    let f = rw (t .classes-right, t .bases-right, t .packs-right) at e in
-    rw q at (f ∙ lent c w h)
+read-here cs bs ps c image pc w r t h q e = rw q at (read-lent cs bs ps c w r t h e)
 
 module _ (e : Env) (s : State) (h : s .core .pc < e .config .imsize) (j : Instruction)
     (q : readingOf (Decoded j) ≡ readLawful (e .config) (getD (e .image) (s .core .pc) 0)) (p : ℕ) (f : factsIn p ≡ factsOf (j .row)) where

@@ -23,10 +23,8 @@ use Rattle.words.specs.Kinds.{marksOf}
 use Rattle.words.specs.Rows.{rowAt}
 use Rattle.words.specs.Words.{refusals567, answered, partsBy, partsOf, readBy, readLawful}
 use Rattle.words.specs.Answers.{refusalNumber, readingOf}
-use Rattle.words.specs.Packed.{noPacked, rowTable}
-use Rattle.words.specs.Facts.{facts, factsOf, factsIn, factsLent}
+use Rattle.words.specs.Facts.{facts, factsOf, factsIn}
 use Rattle.words.proofs.RoundTrip.{decoded}
-use Rattle.words.proofs.Lent.{facts-lent}
 use Rattle.state.specs.declared.Core.{Core}
 use Rattle.state.specs.declared.Change.{Change}
 use Rattle.state.specs.State.{Env, State}
@@ -174,11 +172,6 @@ module _ (e : Env) (s : State) where
         record { pc = m .pc; wp = omega arith; rx = omega arith; depth = omega arith },
         omega arith,
       )
-
--- the facts in a lent table's number
-pub facts-in : (packs : List ℕ) (p n : ℕ) → packs ≡ rowTable → p ≡ getD packs n noPacked → factsIn p ≡ factsOf n
-unfolding factsLent
-facts-in packs p n h q = rw (q, h) (facts-lent n)
 
 pub facts-made : (p n k o f c : ℕ) → factsIn p ≡ factsOf n → k ≡ factsIn p .kind → o ≡ factsIn p .operation → f ≡ factsIn p .form →
     c ≡ factsIn p .condition → facts k o f c (marksOf k) ≡ factsOf n

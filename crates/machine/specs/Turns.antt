@@ -4,7 +4,6 @@ use mathlib.Core.Path.{_≡_}
 use mathlib.Core.List.{List}
 use lib.ListN.{length}
 use Rattle.words.specs.declared.Config.{Config}
-use Rattle.words.specs.Packed.{classTable, baseTable, rowTable}
 use Rattle.state.specs.declared.Core.{Core}
 use Rattle.state.specs.declared.Machine.{Machine}
 use Rattle.state.specs.State.{Env, State, state}
@@ -14,12 +13,6 @@ use Rattle.machine.specs.declared.Turn.{Turn}
 use Rattle.machine.specs.declared.Turns.{Turns}
 use Rattle.machine.specs.declared.Stepped.{Stepped}
 use Rattle.machine.specs.declared.Ran.{Ran}
-
--- the tables that are lent are the tables of words
-pub record Tables (classes bases packs : List ℕ) : Type 0 where
-  pub classes-right : classes ≡ classTable
-  pub bases-right : bases ≡ baseTable
-  pub packs-right : packs ≡ rowTable
 
 abbrev pub machineState : Machine → List ℕ → List ℕ → List ℕ → List ℕ → State
 machineState m registers memory addresses values = state (m .core) (m .stack) registers memory addresses values

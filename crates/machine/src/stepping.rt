@@ -2,11 +2,12 @@
 ghost use mathlib.Core.Path.{_≡_};
 ghost use Prim.Native.Nat.{_≤_};
 ghost use lib.ListN.{length};
+ghost use Rattle.words.specs.Packed.{Tables};
 ghost use Rattle.state.specs.State.{env, state};
 ghost use Rattle.state.specs.Run.{runOf};
 ghost use Rattle.state.proofs.Good.{Good};
 ghost use Rattle.machine.specs.Promises.{Steps, Runs};
-ghost use Rattle.machine.specs.Turns.{Tables, machineState, stepped, endOf, turnsEnd, ranEnd};
+ghost use Rattle.machine.specs.Turns.{machineState, stepped, endOf, turnsEnd, ranEnd};
 use crate::Ran;
 use crate::Stepped;
 use crate::Turns;

@@ -1,6 +1,5 @@
 pub mod Exact
 pub mod First
-pub mod Search
 pub mod Moves
 pub mod Kept
 pub mod Control

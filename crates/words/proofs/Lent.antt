@@ -12,11 +12,13 @@ use Rattle.laws.specs.Test.{Test, same, _and_, test, Holds, holds}
 use Rattle.laws.specs.Lists.{column-at}
 use Rattle.laws.specs.Table.{every, at-every}
 use Rattle.words.specs.declared.Config.{Config}
+use Rattle.words.specs.declared.Reading.{Reading}
+use Rattle.words.specs.Answers.{readingOf}
 use Rattle.words.specs.Kinds.{marks, marksOf}
 use Rattle.words.specs.Rows.{Row, row, rows, noRow, rowCount, rowAt}
 use Rattle.words.specs.Classes.{none, classOf, rowOf}
 use Rattle.words.specs.Words.{fieldsIn, spread, partsBy, readBy, readLawful}
-use Rattle.words.specs.Packed.{packed, unpack, noPacked, classTable, baseTable, rowTable, rowLent, readLent}
+use Rattle.words.specs.Packed.{packed, unpack, noPacked, classTable, baseTable, rowTable, Tables, rowLent, readLent}
 use Rattle.words.specs.Facts.{facts, factsOf, factsIn, factsLent}
 use Rattle.words.proofs.ClassTable.{class-at}
 
@@ -101,3 +103,12 @@ pub lent : (c : Config) (w : ℕ) → w < 0x100000000 → readLent classTable ba
 unfolding readLent readLawful
 lent c w h =
     same-reading (λ k. getD classTable k none) classOf (rowLent baseTable rowTable) rowAt c w (class-at (w / 0x800000) (omega arith)) row-lent
+
+-- the same for callers that lend the tables
+pub read-lent : (cs bs ps : List ℕ) (c : Config) (w : ℕ) (r : Reading) → Tables cs bs ps → w < 0x100000000 →
+    readingOf r ≡ readLent cs bs ps c w → readingOf r ≡ readLawful c w
+read-lent cs bs ps c w r t h e = (rw (t .classes-right, t .bases-right, t .packs-right) at e) ∙ lent c w h
+
+pub facts-in : (packs : List ℕ) (p n : ℕ) → packs ≡ rowTable → p ≡ getD packs n noPacked → factsIn p ≡ factsOf n
+unfolding factsLent
+facts-in packs p n h q = rw (q, h) (facts-lent n)

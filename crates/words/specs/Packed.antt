@@ -1,5 +1,6 @@
 -- The tables that code holds: the classes, the rows' bases, and the rows' other columns packed into one number each.
 use Prim.Native.Nat.{ℕ, _+_, _*_, _/_, _%_}
+use mathlib.Core.Path.{_≡_}
 use mathlib.Core.List.{List, [], _∷_}
 use lib.ListN.{getD}
 use Rattle.laws.specs.Lists.{column}
@@ -54,6 +55,12 @@ baseTable = column (λ (r : Row). r .base) rows
 
 unfoldable pub rowTable : List ℕ
 rowTable = column packed rows
+
+-- the tables that are lent are these
+pub record Tables (classes bases packs : List ℕ) : Type 0 where
+  pub classes-right : classes ≡ classTable
+  pub bases-right : bases ≡ baseTable
+  pub packs-right : packs ≡ rowTable
 
 -- the row of number n by lent tables
 unfoldable pub rowLent : List ℕ → List ℕ → ℕ → Row

@@ -1,5 +1,6 @@
 -- `certificate::reading::look` meets its contract. Assumes nothing.
-use Rattle.certificate.proofs.Looking.{read-here, facts-in, refused-parts, decoded-parts}
+use Rattle.certificate.proofs.Looking.{read-here, refused-parts, decoded-parts}
+use Rattle.words.proofs.Lent.{facts-in}
 use borrow.Author.Needs.{needs}
 use Rattle.certificate.proofs.reading.look.Statement.{statement}
 use Rattle.certificate.proofs.reading.look.Tie as tie

@@ -4,7 +4,8 @@ use borrow.Author.Tests.{lt-ltb, le-ltb, le-leb, lt-leb, eq-eqb, ne-eqb, not-tru
 use mathlib.Core.Path.{_≡_, sym, ap, _∙_}
 use Rattle.state.specs.State.{env, state}
 use Rattle.words.specs.Answers.{refusalNumber, readingOf}
-use Rattle.machine.proofs.Deciding.{outside, unreadable, ready, facts-in, not-zero}
+use Rattle.machine.proofs.Deciding.{outside, unreadable, ready, not-zero}
+use Rattle.words.proofs.Lent.{facts-in}
 use Rattle.machine.proofs.Decided.{halted, read-here, not-allowed, executed, cycles-taken}
 use borrow.Author.Needs.{needs}
 use Rattle.machine.proofs.advance.decide.Statement.{statement}
