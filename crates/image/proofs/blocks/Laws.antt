@@ -1,0 +1,106 @@
+-- Laws of words, checksums and padding, in the shape that the loops leave. Assumes nothing.
+use mathlib.Core.Path.{_≡_, refl, sym, ap, _∙_}
+use mathlib.Core.Bool.{true, false, _&&_}
+use mathlib.Core.List.{List, [], _∷_, _++_}
+use Prim.Native.Nat.{ℕ, zero, suc, _+_, _-_, _*_, _%_, _^_, _<_, _≤_}
+use native.Mathlib.Nat.{add-zero, mod-add-mod}
+use native.Mathlib.Numerals.{add-one}
+use native.Mathlib.Omega.{arith}
+use borrow.Author.Tests.{eq-eqb, ne-eqb, lt-ltb, le-ltb}
+use lib.Dec.{T, ltb}
+use Rattle.laws.specs.Choice.{pick}
+use Rattle.laws.specs.Table.{values}
+use Rattle.laws.specs.Test.{Test, test}
+use Rattle.laws.specs.First.{first-failing, positive}
+use Rattle.image.specs.File.{wordAt, wordsAt, total, checksum}
+use Rattle.image.specs.Loading.{zeros, blockTests, blocksTests}
+use Rattle.image.proofs.Lists.{values-first, values-at}
+use Rattle.image.proofs.Refusals.{part-fails, part-passes}
+
+-- the sum s so far and what is left give the whole: before the first word, after one more, and after the last
+pub sum-start : (g : ℕ → ℕ) (i n : ℕ) → (512 + total (values g (i + 0) (n - 0))) % 2 ^ 32 ≡ checksum (values g i n)
+unfolding checksum
+sum-start g i n = let e : n - 0 ≡ n = omega arith in rw (add-zero, e) (ap (λ (k : ℕ). k % 2 ^ 32) (omega arith))
+
+pub sum-next : (g : ℕ → ℕ) (i k n s : ℕ) → k < n →
+    ((s + g (i + k)) % 2 ^ 32 + total (values g (i + (k + 1)) (n - (k + 1)))) % 2 ^ 32 ≡ (s + total (values g (i + k) (n - k))) % 2 ^ 32
+unfolding total
+sum-next g i k n s h =
+    let t = total (values g (i + (k + 1)) (n - (k + 1))) in
+    rw (values-at g i k n h) (mod-add-mod (s + g (i + k)) (2 ^ 32) t ∙ ap (λ (x : ℕ). x % 2 ^ 32) (omega arith))
+
+pub sum-end : (g : ℕ → ℕ) (i n s : ℕ) → s < 2 ^ 32 → (s + total (values g (i + n) (n - n))) % 2 ^ 32 ≡ s
+unfolding total
+sum-end g i n s h = let e : n - n ≡ 0 = omega arith in rw e (omega arith)
+
+-- the same of the words of a file
+module _ (f : List ℕ) (i n : ℕ) where
+  pub words-start : (512 + total (wordsAt f (i + 0) (n - 0))) % 2 ^ 32 ≡ checksum (wordsAt f i n)
+  unfolding wordsAt
+  words-start = sum-start (wordAt f) i n
+
+  pub words-next : (k s : ℕ) → k < n →
+      ((s + wordAt f (i + k)) % 2 ^ 32 + total (wordsAt f (i + (k + 1)) (n - (k + 1)))) % 2 ^ 32 ≡ (s + total (wordsAt f (i + k) (n - k))) % 2 ^ 32
+  unfolding wordsAt
+  words-next k s h = sum-next (wordAt f) i k n s h
+
+  pub words-end : (s : ℕ) → s < 2 ^ 32 → (s + total (wordsAt f (i + n) (n - n))) % 2 ^ 32 ≡ s
+  unfolding wordsAt
+  words-end s h = sum-end (wordAt f) i n s h
+
+-- words that are zero: one that is not decides, one that is leaves the rest
+pub not-zero : (f : List ℕ) (i n : ℕ) → 0 < n → (wordAt f i ≡ 0 → ⊥) → false ≡ test (zeros (wordsAt f i n))
+unfolding wordsAt
+not-zero f i n h e = rw (values-first (wordAt f) i n h, le-ltb (wordAt f i) 1 (omega arith))
+
+pub zero-next : (f : List ℕ) (i n : ℕ) → 0 < n → wordAt f i ≡ 0 → test (zeros (wordsAt f (i + 1) (n - 1))) ≡ test (zeros (wordsAt f i n))
+unfolding wordsAt
+zero-next f i n h e = rw (values-first (wordAt f) i n h, lt-ltb (wordAt f i) 1 (omega arith))
+
+pub zero-none : (f : List ℕ) (i : ℕ) → true ≡ test (zeros (wordsAt f i 0))
+unfolding wordsAt
+zero-none f i = refl
+
+-- 20 and 21 of a block
+pub block-number : (f : List ℕ) (b : ℕ) → (wordAt f (b * 128) ≡ b → ⊥) → 20 ≡ first-failing (blockTests f b)
+unfolding blockTests pick
+block-number f b h = rw (ne-eqb _ _ h)
+
+pub block-sum : (f : List ℕ) (b : ℕ) → wordAt f (b * 128) ≡ b → (wordAt f (b * 128 + 127) ≡ checksum (wordsAt f (b * 128) 127) → ⊥) →
+    21 ≡ first-failing (blockTests f b)
+unfolding blockTests pick
+block-sum f b e h = rw (eq-eqb _ _ e, ne-eqb _ _ h)
+
+pub block-right : (f : List ℕ) (b : ℕ) → wordAt f (b * 128) ≡ b → wordAt f (b * 128 + 127) ≡ checksum (wordsAt f (b * 128) 127) →
+    0 ≡ first-failing (blockTests f b)
+unfolding blockTests pick
+block-right f b e h = rw (eq-eqb _ _ e, eq-eqb _ _ h)
+
+pub block-positive : (f : List ℕ) (b : ℕ) → T (positive (blockTests f b))
+unfolding blockTests
+block-positive f b = tt
+
+pub blocks-positive : (f : List ℕ) (b n : ℕ) → T (positive (blocksTests f b n))
+unfolding blocksTests blockTests
+blocks-positive f b zero = tt
+blocks-positive f b (suc n) = blocks-positive f (suc b) n
+
+-- of several blocks, the first and the rest
+pub blocks-first : (f : List ℕ) (b n : ℕ) → 0 < n → (first-failing (blockTests f b) ≡ 0 → ⊥) →
+    first-failing (blockTests f b) ≡ first-failing (blocksTests f b n)
+unfolding blocksTests
+blocks-first f b zero h e = absurd (omega arith)
+blocks-first f b (suc n) h e = part-fails (blockTests f b) (blocksTests f (suc b) n) (block-positive f b) e
+
+pub blocks-next : (f : List ℕ) (b n : ℕ) → 0 < n → first-failing (blockTests f b) ≡ 0 →
+    first-failing (blocksTests f (b + 1) (n - 1)) ≡ first-failing (blocksTests f b n)
+unfolding blocksTests
+blocks-next f b zero h e = absurd (omega arith)
+blocks-next f b (suc n) h e =
+    let m : suc n - 1 ≡ n = omega arith in
+    rw (add-one, m)
+    (sym (part-passes (blockTests f b) (blocksTests f (suc b) n) (block-positive f b) e))
+
+pub blocks-none : (f : List ℕ) (b : ℕ) → 0 ≡ first-failing (blocksTests f b 0)
+unfolding blocksTests
+blocks-none f b = refl

@@ -1,0 +1,4 @@
+pub mod File
+pub mod Loading
+pub mod Storing
+pub mod Claims

@@ -1,0 +1,13 @@
+// The image file of document 01: loading one, and writing one.
+
+mod blocks;
+pub mod loading;
+
+pub use loading::load;
+use words::Config;
+
+// Document 01's number, 0 for a pass, and the configuration; beside a refusal it is all zeros.
+pub struct Loaded {
+    pub number: u32,
+    pub config: Config,
+}
