@@ -1,2 +1,4 @@
 pub mod Lists
 pub mod Refusals
+pub mod Lawful
+pub mod RoundTrip

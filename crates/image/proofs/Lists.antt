@@ -5,9 +5,10 @@ use Prim.Native.Nat.{ℕ, zero, suc, _+_, _-_, _<_, _≤_}
 use native.Mathlib.Nat.{add-zero, zero-add, add-suc, suc-add}
 use native.Mathlib.Numerals.{add-one}
 use native.Mathlib.Omega.{arith}
-use lib.ListN.{length, set}
+use lib.ListN.{length, getD, set}
 use lib.Seq.{sets}
-use Rattle.laws.specs.Table.{values}
+use Rattle.laws.specs.Table.{values, value-at}
+use Rattle.laws.specs.Test.{Below}
 
 -- two runs of stores, one after the other, are one run
 pub sets-append : (l : List ℕ) (i : ℕ) (vs ws : List ℕ) → sets l i (vs ++ ws) ≡ sets (sets l i vs) (i + length vs) ws
@@ -43,3 +44,23 @@ values-same g h i j (suc n) e =
   where
     next : (n : ℕ) → ((k : ℕ) → k < suc n → g (i + k) ≡ h (j + k)) → (k : ℕ) → k < n → g (suc i + k) ≡ h (suc j + k)
     next n e k q = rw (suc-add, suc-add, ← add-suc, ← add-suc) (e (suc k) (omega arith))
+
+pub values-getD : (g : ℕ → ℕ) (i n k : ℕ) → k < n → getD (values g i n) k 0 ≡ g (i + k)
+values-getD g i n k h =
+    ap (λ l. getD l k 0) (values-same g (λ j. g (i + j)) i 0 n (λ j q. rw zero-add)) ∙ value-at (λ j. g (i + j)) n k 0 h
+
+-- a list is the values of what it has at each place
+pub values-list : (g : ℕ → ℕ) (i : ℕ) (l : List ℕ) → ((k : ℕ) → k < length l → g (i + k) ≡ getD l k 0) → values g i (length l) ≡ l
+values-list g i [] e = refl
+values-list g i (x ∷ l) e =
+    let a : g i ≡ x = rw add-zero at (e 0 (omega arith)) in
+    rw (a, values-list g (suc i) l (λ k q. rw (suc-add, ← add-suc) (e (suc k) (omega arith))))
+
+pub below-values : (b : ℕ) (g : ℕ → ℕ) (i n : ℕ) → ((k : ℕ) → k < n → g (i + k) < b) → Below b (values g i n)
+below-values b g i zero h = tt
+below-values b g i (suc n) h =
+    (rw add-zero at (h 0 (omega arith)), below-values b g (suc i) n (λ k q. rw (suc-add, ← add-suc) (h (suc k) (omega arith))))
+
+pub below-append : (b : ℕ) (xs ys : List ℕ) → Below b xs → Below b ys → Below b (xs ++ ys)
+below-append b [] ys h k = k
+below-append b (x ∷ xs) ys h k = (h .0, below-append b xs ys (h .1) k)

@@ -1,15 +1,17 @@
 -- Writing an image file: the blocks of a configuration and an image, and what the call answers and leaves.
-use Prim.Native.Nat.{ℕ, zero, suc, _+_, _*_, _/_, _%_}
+use Prim.Native.Nat.{ℕ, zero, suc, _+_, _*_, _/_, _%_, _^_}
 use mathlib.Core.List.{List, [], _∷_, _++_}
+use mathlib.Core.Path.{_≡_}
 use lib.Dec.{eqb}
 use lib.ListN.{length, getD}
+use lib.Seq.{sets}
 use Rattle.laws.specs.Choice.{pick}
 use Rattle.laws.specs.Test.{Test, same}
 use Rattle.laws.specs.First.{first-failing}
 use Rattle.laws.specs.Table.{values}
 use Rattle.words.specs.declared.Config.{Config}
 use Rattle.words.specs.Configs.{lawful}
-use Rattle.image.specs.File.{checksum, blocksFor, fileSize}
+use Rattle.image.specs.File.{total, checksum, blocksFor, fileSize}
 
 -- "little-endian words": the bytes of each word, the lowest first
 unfoldable pub bytesOf : List ℕ → List ℕ
@@ -66,3 +68,8 @@ unfoldable pub storeOf : Config → List ℕ → List ℕ → Store
 storeOf c image file =
     let number = first-failing (storeTests c (length image) (length file)) in
     record { number = number; file = pick (eqb number 0) (fileOf c image) file }
+
+-- what putting words at a place leaves: the bytes, and the sum with the words added
+pub record Put (file : List ℕ) (place : ℕ) (ws : List ℕ) (sum r : ℕ) (after : List ℕ) : Type 0 where
+  pub bytes : after ≡ sets file (place * 4) (bytesOf ws)
+  pub added : r ≡ (sum + total ws) % 2 ^ 32

@@ -2,8 +2,10 @@
 
 mod blocks;
 pub mod loading;
+pub mod storing;
 
 pub use loading::load;
+pub use storing::store;
 use words::Config;
 
 // Document 01's number, 0 for a pass, and the configuration; beside a refusal it is all zeros.

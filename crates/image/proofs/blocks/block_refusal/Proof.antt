@@ -8,32 +8,8 @@ use borrow.Author.Needs.{needs}
 use Rattle.image.proofs.blocks.block_refusal.Statement.{statement}
 use Rattle.image.proofs.blocks.block_refusal.Tie as tie
 
-mul-word : tie.Need-mul-word
-mul-word c = search needs
-
-word-requires : tie.Need-word-requires
-word-requires c κs = search needs
-
-cast-number : tie.Need-cast-number
-cast-number c = search needs
-
 returns : tie.Need-returns
 returns c = block-number _ _ (λ e. c .if1 .taken (c .before .word .ensures ∙ e))
-
-mul-word-2 : tie.Need-mul-word-2
-mul-word-2 c = search needs
-
-add-word : tie.Need-add-word
-add-word c = search needs
-
-word-requires-2 : tie.Need-word-requires-2
-word-requires-2 c κs = search needs
-
-mul-checksum-at : tie.Need-mul-checksum-at
-mul-checksum-at c = search needs
-
-checksum-at-requires : tie.Need-checksum-at-requires
-checksum-at-requires c κs = search needs
 
 returns-2 : tie.Need-returns-2
 returns-2 c = block-sum _ _ (omega arith) (λ e. c .if2 .taken (c .before .before .word2 .ensures ∙ e ∙ sym (c .before .checksum-at .ensures)))
@@ -44,15 +20,4 @@ returns-3 c = block-right _ _ (omega arith) (omega arith)
 pub block-refusal-spec : {M : Type 1} → statement M
 block-refusal-spec =
     tie.close
-    (tie.spec
-    mul-word
-    word-requires
-    cast-number
-    returns
-    mul-word-2
-    add-word
-    word-requires-2
-    mul-checksum-at
-    checksum-at-requires
-    returns-2
-    returns-3)
+    (tie.spec (λ c. search needs) (λ c κs. search needs) (λ c. search needs) returns (λ c. search needs) (λ c. search needs) (λ c κs. search needs) (λ c. search needs) (λ c κs. search needs) returns-2 returns-3)

@@ -17,23 +17,8 @@ Inv-loop file from n i₀ left₀ i left = ((i + left) * 4 ≤ length file) × (
 abbrev μ-loop : tie.MeasureT-loop
 μ-loop file from n i₀ left₀ i left = left
 
-loop-holds : tie.Need-loop-holds Inv-loop μ-loop
-loop-holds c = search needs
-
-word-requires : tie.Need-word-requires Inv-loop μ-loop
-word-requires c κs = search needs
-
 returns : tie.Need-returns Inv-loop μ-loop
 returns c = not-zero _ _ _ (omega arith) (λ e. c .if1 .taken (c .before .word .ensures ∙ e)) ∙ c .before .before .before .loop .inv .1
-
-add-i : tie.Need-add-i Inv-loop μ-loop
-add-i c = search needs
-
-sub-left : tie.Need-sub-left Inv-loop μ-loop
-sub-left c = search needs
-
-loop-less : tie.Need-loop-less Inv-loop μ-loop
-loop-less c = search needs
 
 loop-again : tie.Need-loop-again Inv-loop μ-loop
 loop-again c = (omega arith, zero-next _ _ _ (omega arith) (sym (c .before .word .ensures) ∙ omega arith) ∙ c .before .before .before .loop .inv .1)
@@ -44,14 +29,4 @@ returns-2 c = let e : c .before .loop .left ≡ 0 = omega arith in zero-none _ _
 pub zero-words-spec : {M : Type 1} → statement M
 zero-words-spec =
     tie.close
-    (tie.spec
-    Inv-loop
-    μ-loop
-    loop-holds
-    word-requires
-    returns
-    add-i
-    sub-left
-    loop-less
-    loop-again
-    returns-2)
+    (tie.spec Inv-loop μ-loop (λ c. search needs) (λ c κs. search needs) returns (λ c. search needs) (λ c. search needs) (λ c. search needs) loop-again returns-2)

@@ -3,67 +3,10 @@ use borrow.Author.Needs.{needs}
 use Rattle.image.proofs.loading.config_of.Statement.{statement}
 use Rattle.image.proofs.loading.config_of.Tie as tie
 
-word-requires : tie.Need-word-requires
-word-requires c κs = search needs
-
-word-requires-2 : tie.Need-word-requires-2
-word-requires-2 c κs = search needs
-
-word-requires-3 : tie.Need-word-requires-3
-word-requires-3 c κs = search needs
-
-word-requires-4 : tie.Need-word-requires-4
-word-requires-4 c κs = search needs
-
-word-requires-5 : tie.Need-word-requires-5
-word-requires-5 c κs = search needs
-
-word-requires-6 : tie.Need-word-requires-6
-word-requires-6 c κs = search needs
-
-word-requires-7 : tie.Need-word-requires-7
-word-requires-7 c κs = search needs
-
-word-requires-8 : tie.Need-word-requires-8
-word-requires-8 c κs = search needs
-
-word-requires-9 : tie.Need-word-requires-9
-word-requires-9 c κs = search needs
-
-word-requires-10 : tie.Need-word-requires-10
-word-requires-10 c κs = search needs
-
-word-requires-11 : tie.Need-word-requires-11
-word-requires-11 c κs = search needs
-
-word-requires-12 : tie.Need-word-requires-12
-word-requires-12 c κs = search needs
-
-word-requires-13 : tie.Need-word-requires-13
-word-requires-13 c κs = search needs
-
-word-requires-14 : tie.Need-word-requires-14
-word-requires-14 c κs = search needs
-
 returns : tie.Need-returns
 returns c = cc
 
 pub config-of-spec : {M : Type 1} → statement M
 config-of-spec =
     tie.close
-    (tie.spec
-    word-requires
-    word-requires-2
-    word-requires-3
-    word-requires-4
-    word-requires-5
-    word-requires-6
-    word-requires-7
-    word-requires-8
-    word-requires-9
-    word-requires-10
-    word-requires-11
-    word-requires-12
-    word-requires-13
-    word-requires-14
-    returns)
+    (tie.spec (λ c κs. search needs) (λ c κs. search needs) (λ c κs. search needs) (λ c κs. search needs) (λ c κs. search needs) (λ c κs. search needs) (λ c κs. search needs) (λ c κs. search needs) (λ c κs. search needs) (λ c κs. search needs) (λ c κs. search needs) (λ c κs. search needs) (λ c κs. search needs) (λ c κs. search needs) returns)

@@ -19,38 +19,8 @@ abbrev μ-loop : tie.MeasureT-loop
 loop-holds : tie.Need-loop-holds Inv-loop μ-loop
 loop-holds c = (omega arith, refl, blocks-start _ _ _)
 
-mul-loop : tie.Need-mul-loop Inv-loop μ-loop
-mul-loop c = search needs
-
-mul-at : tie.Need-mul-at Inv-loop μ-loop
-mul-at c = search needs
-
-mul-copy-words : tie.Need-mul-copy-words Inv-loop μ-loop
-mul-copy-words c = search needs
-
-add-copy-words : tie.Need-add-copy-words Inv-loop μ-loop
-add-copy-words c = search needs
-
-sub-in-block : tie.Need-sub-in-block Inv-loop μ-loop
-sub-in-block c = search needs
-
-in-block-requires : tie.Need-in-block-requires Inv-loop μ-loop
-in-block-requires c κs = search needs
-
-copy-words-requires : tie.Need-copy-words-requires Inv-loop μ-loop
-copy-words-requires c κs = search needs
-
-add-b : tie.Need-add-b Inv-loop μ-loop
-add-b c = search needs
-
-loop-less : tie.Need-loop-less Inv-loop μ-loop
-loop-less c = search needs
-
 loop-again : tie.Need-loop-again Inv-loop μ-loop
 loop-again c = (omega arith, (ap length (c .before .before .copy-words .ensures) ∙ simp length-sets (c .before .before .before .before .before .before .loop .inv .1)), rw (c .before .before .copy-words .ensures) (block-next _ _ _ _ _ (c .before .before .before .in-block .ensures .0) (c .before .before .before .in-block .ensures .1 .0) (c .before .before .before .in-block .ensures .1 .1) ∙ c .before .before .before .before .before .before .loop .inv .2))
-
-same-length : tie.Need-same-length Inv-loop μ-loop
-same-length c = search needs
 
 returns : tie.Need-returns Inv-loop μ-loop
 returns c = sym (blocks-end _ _ _ _ (c .loop-test .left)) ∙ c .before .loop .inv .2
@@ -58,19 +28,4 @@ returns c = sym (blocks-end _ _ _ _ (c .loop-test .left)) ∙ c .before .loop .i
 pub copy-image-spec : {M : Type 1} → statement M
 copy-image-spec =
     tie.close
-    (tie.spec
-    Inv-loop
-    μ-loop
-    loop-holds
-    mul-loop
-    mul-at
-    mul-copy-words
-    add-copy-words
-    sub-in-block
-    in-block-requires
-    copy-words-requires
-    add-b
-    loop-less
-    loop-again
-    same-length
-    returns)
+    (tie.spec Inv-loop μ-loop loop-holds (λ c. search needs) (λ c. search needs) (λ c. search needs) (λ c. search needs) (λ c. search needs) (λ c κs. search needs) (λ c κs. search needs) (λ c. search needs) (λ c. search needs) loop-again (λ c. search needs) returns)

@@ -26,9 +26,6 @@ returns-2 : tie.Need-returns-2
 unfolding pick
 returns-2 c = let l = not-false (test (less 0 (length (c .before .before .before .before .args .file .now)) and same (length (c .before .before .before .before .args .file .now) % 512) 0)) (c .before .before .if1 .left) in rw (head-is, l, ne-eqb (first-failing (blockTests (c .before .before .before .before .args .file .now) 0)) 0 (λ e. c .if2 .taken (c .before .block-refusal .ensures ∙ e))) (c .before .block-refusal .ensures)
 
-sub-zero-words : tie.Need-sub-zero-words
-sub-zero-words c = search needs
-
 zero-words-requires : tie.Need-zero-words-requires
 zero-words-requires c κs = let h = head-length (c .before .before .before .before .args .file .now) (not-false (test (less 0 (length (c .before .before .before .before .args .file .now)) and same (length (c .before .before .before .before .args .file .now) % 512) 0)) (c .before .before .if1 .left)) in omega arith
 
@@ -38,9 +35,6 @@ returns-3 c = let l = not-false (test (less 0 (length (c .before .before .before
 
 config-of-requires : tie.Need-config-of-requires
 config-of-requires c κs = let h = head-length (c .before .before .before .before .before .before .args .file .now) (not-false (test (less 0 (length (c .before .before .before .before .before .before .args .file .now)) and same (length (c .before .before .before .before .before .before .args .file .now) % 512) 0)) (c .before .before .before .before .if1 .left)) in omega arith
-
-lawful-requires : tie.Need-lawful-requires
-lawful-requires c κs = search needs
 
 returns-4 : tie.Need-returns-4
 unfolding pick
@@ -53,14 +47,4 @@ returns-5 c = let l = not-false (test (less 0 (length (c .before .before .before
 pub head-refusal-spec : {M : Type 1} → statement M
 head-refusal-spec =
     tie.close
-    (tie.spec
-    returns
-    block-refusal-requires
-    returns-2
-    sub-zero-words
-    zero-words-requires
-    returns-3
-    config-of-requires
-    lawful-requires
-    returns-4
-    returns-5)
+    (tie.spec returns block-refusal-requires returns-2 (λ c. search needs) zero-words-requires returns-3 config-of-requires (λ c κs. search needs) returns-4 returns-5)

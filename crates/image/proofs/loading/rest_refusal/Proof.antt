@@ -15,15 +15,6 @@ use borrow.Author.Needs.{needs}
 use Rattle.image.proofs.loading.rest_refusal.Statement.{statement}
 use Rattle.image.proofs.loading.rest_refusal.Tie as tie
 
-blocks-for-requires : tie.Need-blocks-for-requires
-blocks-for-requires c κs = search needs
-
-mul-if1 : tie.Need-mul-if1
-mul-if1 c = search needs
-
-add-if1 : tie.Need-add-if1
-add-if1 c = search needs
-
 returns : tie.Need-returns
 unfolding pick
 returns c = rw (rest-is, ne-eqb (length (c .before .before .before .args .file .now)) (fileSize (c .before .before .before .args .n)) (λ e. c .if1 .taken (omega (arith, c .before .blocks-for .ensures))))
@@ -32,30 +23,9 @@ returns-2 : tie.Need-returns-2
 unfolding pick
 returns-2 c = let l : length (c .before .before .before .before .args .file .now) ≡ fileSize (c .before .before .before .before .args .n) = omega (arith, c .before .before .blocks-for .ensures) in rw (rest-is, eq-eqb _ _ l, lt-leb _ _ (c .if2 .taken))
 
-blocks-refusal-requires : tie.Need-blocks-refusal-requires
-blocks-refusal-requires c κs = search needs
-
 returns-3 : tie.Need-returns-3
 unfolding pick
 returns-3 c = let l : length (c .before .before .before .before .before .before .args .file .now) ≡ fileSize (c .before .before .before .before .before .before .args .n) = omega (arith, c .before .before .before .before .blocks-for .ensures) in let h : c .before .before .before .before .before .before .args .n ≤ c .before .before .before .before .before .before .args .len = omega arith in rw (rest-is, eq-eqb _ _ l, le-leb _ _ h, ne-eqb (first-failing (blocksTests (c .before .before .before .before .before .before .args .file .now) 1 (blocksFor (c .before .before .before .before .before .before .args .n)))) 0 (λ e. c .if3 .taken ((rw (c .before .before .before .before .blocks-for .ensures) at (c .before .blocks-refusal .ensures)) ∙ e))) (rw (c .before .before .before .before .blocks-for .ensures) at (c .before .blocks-refusal .ensures))
-
-mul-left : tie.Need-mul-left
-mul-left c = search needs
-
-sub-left : tie.Need-sub-left
-sub-left c = search needs
-
-mul-zero-words : tie.Need-mul-zero-words
-mul-zero-words c = search needs
-
-add-zero-words : tie.Need-add-zero-words
-add-zero-words c = search needs
-
-sub-zero-words : tie.Need-sub-zero-words
-sub-zero-words c = search needs
-
-zero-words-requires : tie.Need-zero-words-requires
-zero-words-requires c κs = search needs
 
 returns-4 : tie.Need-returns-4
 unfolding pick
@@ -68,19 +38,4 @@ returns-5 c = let l : length (c .before .before .before .before .before .before 
 pub rest-refusal-spec : {M : Type 1} → statement M
 rest-refusal-spec =
     tie.close
-    (tie.spec
-    blocks-for-requires
-    mul-if1
-    add-if1
-    returns
-    returns-2
-    blocks-refusal-requires
-    returns-3
-    mul-left
-    sub-left
-    mul-zero-words
-    add-zero-words
-    sub-zero-words
-    zero-words-requires
-    returns-4
-    returns-5)
+    (tie.spec (λ c κs. search needs) (λ c. search needs) (λ c. search needs) returns returns-2 (λ c κs. search needs) returns-3 (λ c. search needs) (λ c. search needs) (λ c. search needs) (λ c. search needs) (λ c. search needs) (λ c κs. search needs) returns-4 returns-5)
