@@ -55,14 +55,4 @@ small c h =
     let z = one-of (c .regsize) registerSizes tt (g .1) in
     let d = one-of (c .dmsize) dataSizes tt (m .1 .1 .0) in
     let k = banked (c .rmsize) (c .regsize) (c .regwidth) z b in
-    let s : c .imsize < 0x100000000 = omega arith in
-    let p : c .pcstack < 0x100000000 = omega arith in
-    let q : c .dmpipe < 0x100000000 = omega arith in
-    let l : c .alulevel < 0x100000000 = omega arith in
-    let u : c .alumult < 0x100000000 = omega arith in
-    let v : c .aluspr < 0x100000000 = omega arith in
-    let f : c .iopif < 0x100000000 = omega arith in
-    let x : c .ioprmw < 0x100000000 = omega arith in
-    let y : c .yamclk < 0x100000000 = omega arith in
-    let t : c .yamsreg3 < 0x100000000 = omega arith in
-    s also w also z also k also p also d also q also l also u also v also f also x also y also t also tt
+    omega arith also omega arith also omega arith also omega arith also omega arith also omega arith also omega arith also omega arith also omega arith also omega arith also omega arith also omega arith also omega arith also omega arith also tt

@@ -7,7 +7,7 @@ ghost use Rattle.laws.specs.First.{first-failing};
 ghost use Rattle.image.specs.File.{wordAt, wordsAt, checksum, blocksFor};
 ghost use Rattle.image.specs.Loading.{zeros, blockTests, blocksTests};
 
-// The first word of block 0's padding (document 01: filling).
+// The first word of block 0's filling: the words before it carry generics.
 pub const FIRST_FILLING: usize = 15;
 
 fn wide(b: u8) -> u32
@@ -92,13 +92,13 @@ pub fn zero_words(file: &[u8], from: usize, n: usize) -> bool
     ensures { λ r. ⌜ r ≡ test (zeros (wordsAt (now (file .entry)) from n)) ⌝ }
 {
     let mut i = from;
-    let mut left = n;
-    while 0 < left {
+    let mut rest = n;
+    while 0 < rest {
         if word(file, i) != 0 {
             return false;
         }
         i += 1;
-        left -= 1;
+        rest -= 1;
     }
     true
 }
