@@ -1,2 +1,4 @@
 pub mod Writing
 pub mod Pieces
+pub mod Printing
+pub mod Listings

@@ -6,3 +6,4 @@ pub mod Pages
 pub mod Texts
 pub mod Lines
 pub mod Packed
+pub mod Answers

@@ -52,7 +52,7 @@ textOf c i =
     string (flagMark (r .flag) (i .flag))))))
 
 -- "instruction text longer than 20 bytes" (23)
-unfoldable pub textLimit : ℕ
+abbrev pub textLimit : ℕ
 textLimit = 20
 
 -- The text call: 1, 5, 6, 7, then 18 and 23. What it answers, and the page then.
