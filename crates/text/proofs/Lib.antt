@@ -2,3 +2,4 @@ pub mod Writing
 pub mod Pieces
 pub mod Printing
 pub mod Listings
+pub mod Whole

@@ -7,3 +7,4 @@ pub mod Texts
 pub mod Lines
 pub mod Packed
 pub mod Answers
+pub mod Claims

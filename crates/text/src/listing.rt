@@ -4,6 +4,7 @@ ghost use Prim.Native.Nat.{_-_};
 ghost use lib.ListN.{length};
 ghost use Rattle.words.specs.Packed.{Tables};
 ghost use Rattle.text.specs.Answers.{listedOf};
+ghost use Rattle.text.specs.Claims.{Lists};
 ghost use Rattle.text.specs.Lines.{listed, listNumber, listOf};
 ghost use Rattle.text.specs.Packed.{Lent};
 use crate::Listed;
@@ -71,8 +72,8 @@ fn list_number(c: Config, words: usize, size: usize, place: usize) -> u32
     0
 }
 
-// Appends whole lines from address `first` to the image's end. 18 keeps the whole lines; every other byte of the page stays.
-pub fn list(c: Config, image: &[u32], first: usize, page: &mut [u8], place: usize) -> Listed
+// The listing's answer: 1, 2, 18 for a place beyond the page, or what the lines give.
+fn list_answer(c: Config, image: &[u32], first: usize, page: &mut [u8], place: usize) -> Listed
     ensures { λ r. ⌜ listedOf r (now (page .exit)) ≡ listOf c (now (image .entry)) first (now (page .entry)) place ⌝ }
 {
     let n = list_number(c, image.len(), page.len(), place);
@@ -102,4 +103,11 @@ pub fn list(c: Config, image: &[u32], first: usize, page: &mut [u8], place: usiz
         page,
         place,
     )
+}
+
+// Appends whole lines from address `first` to the image's end. 18 keeps the whole lines; every other byte of the page stays (specs/Claims.antt).
+pub fn list(c: Config, image: &[u32], first: usize, page: &mut [u8], place: usize) -> Listed
+    ensures { λ r. ⌜ Lists c (now (image .entry)) first (now (page .entry)) place r (now (page .exit)) ⌝ }
+{
+    list_answer(c, image, first, page, place)
 }
