@@ -7,17 +7,8 @@ use borrow.Author.Needs.{needs}
 use Rattle.text.proofs.forms.piece_len.Statement.{statement}
 use Rattle.text.proofs.forms.piece_len.Tie as tie
 
-cast-result : tie.Need-cast-result
-cast-result c = search needs
-
-cast-result-2 : tie.Need-cast-result-2
-cast-result-2 c = search needs
-
-add-result : tie.Need-add-result
-add-result c = search needs
-
 returns : tie.Need-returns
 returns c = (sym (length-piece (c .before .before .args .p)), omega arith)
 
 pub piece-len-spec : {M : Type 1} → statement M
-piece-len-spec = tie.close (tie.spec cast-result cast-result-2 add-result returns)
+piece-len-spec = tie.close (tie.spec (λ c. search needs) (λ c. search needs) (λ c. search needs) returns)

@@ -4,15 +4,9 @@ use borrow.Author.Needs.{needs}
 use Rattle.text.proofs.forms.piece_lent.Statement.{statement}
 use Rattle.text.proofs.forms.piece_lent.Tie as tie
 
-string-at-requires : tie.Need-string-at-requires
-string-at-requires c κs = search needs
-
-size-at-requires : tie.Need-size-at-requires
-size-at-requires c κs = search needs
-
 returns : tie.Need-returns
 unfolding pieceLent
 returns c = cc
 
 pub piece-lent-spec : {M : Type 1} → statement M
-piece-lent-spec = tie.close (tie.spec string-at-requires size-at-requires returns)
+piece-lent-spec = tie.close (tie.spec (λ c κs. search needs) (λ c κs. search needs) returns)

@@ -19,9 +19,6 @@ put-piece-requires-3 c κs = omega (arith, length-form (c .before .before .befor
 put-piece-requires-4 : tie.Need-put-piece-requires-4
 put-piece-requires-4 c κs = omega (arith, length-form (c .before .before .before .before .before .before .before .before .before .before .before .before .before .before .before .before .before .before .args .f))
 
-same-length : tie.Need-same-length
-same-length c = search needs
-
 returns : tie.Need-returns
 unfolding formText
 returns c = then (c .before .before .before .before .before .before .before .before .before .before .before .before .before .before .put-piece .ensures) (then (c .before .before .before .before .before .before .before .before .before .before .put-piece2 .ensures) (then (c .before .before .before .before .before .before .put-piece3 .ensures) (c .before .before .put-piece4 .ensures)))
@@ -29,10 +26,4 @@ returns c = then (c .before .before .before .before .before .before .before .bef
 pub put-form-spec : {M : Type 1} → statement M
 put-form-spec =
     tie.close
-    (tie.spec
-    put-piece-requires
-    put-piece-requires-2
-    put-piece-requires-3
-    put-piece-requires-4
-    same-length
-    returns)
+    (tie.spec put-piece-requires put-piece-requires-2 put-piece-requires-3 put-piece-requires-4 (λ c. search needs) returns)

@@ -4,11 +4,8 @@ use borrow.Author.Needs.{needs}
 use Rattle.text.proofs.lines.long_form.Statement.{statement}
 use Rattle.text.proofs.lines.long_form.Tie as tie
 
-single-requires : tie.Need-single-requires
-single-requires c κs = search needs
-
 returns : tie.Need-returns
 returns c = question-23 _ (c .single .ensures)
 
 pub long-form-spec : {M : Type 1} → statement M
-long-form-spec = tie.close (tie.spec single-requires returns)
+long-form-spec = tie.close (tie.spec (λ c κs. search needs) returns)

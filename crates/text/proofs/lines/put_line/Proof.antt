@@ -7,9 +7,6 @@ use borrow.Author.Needs.{needs}
 use Rattle.text.proofs.lines.put_line.Statement.{statement}
 use Rattle.text.proofs.lines.put_line.Tie as tie
 
-put-hex-requires : tie.Need-put-hex-requires
-put-hex-requires c κs = search needs
-
 put-byte-requires : tie.Need-put-byte-requires
 put-byte-requires c κs = omega (arith, length-spelled digit 16 6 (c .before .before .before .before .before .before .args .a), length-spelled digit 16 8 (c .before .before .before .before .before .before .args .w))
 
@@ -25,9 +22,6 @@ put-form-requires c κs = omega (arith, length-spelled digit 16 6 (c .before .be
 put-byte-requires-3 : tie.Need-put-byte-requires-3
 put-byte-requires-3 c κs = omega (arith, length-spelled digit 16 6 (c .before .before .before .before .before .before .before .before .before .before .before .before .before .before .before .before .before .before .before .before .before .before .args .a), length-spelled digit 16 8 (c .before .before .before .before .before .before .before .before .before .before .before .before .before .before .before .before .before .before .before .before .before .before .args .w))
 
-same-length : tie.Need-same-length
-same-length c = search needs
-
 returns : tie.Need-returns
 unfolding lineOf
 returns c = then (c .before .before .before .before .before .before .before .before .before .before .before .before .before .before .before .before .before .before .before .before .before .before .put-hex .ensures) (then (c .before .before .before .before .before .before .before .before .before .before .before .before .before .before .before .before .before .before .put-byte .ensures) (then (c .before .before .before .before .before .before .before .before .before .before .before .before .before .before .put-hex2 .ensures) (then (c .before .before .before .before .before .before .before .before .before .before .put-byte2 .ensures) (then (c .before .before .before .before .before .before .put-form .ensures) (c .before .before .put-byte3 .ensures)))))
@@ -35,12 +29,4 @@ returns c = then (c .before .before .before .before .before .before .before .bef
 pub put-line-spec : {M : Type 1} → statement M
 put-line-spec =
     tie.close
-    (tie.spec
-    put-hex-requires
-    put-byte-requires
-    put-hex-requires-2
-    put-byte-requires-2
-    put-form-requires
-    put-byte-requires-3
-    same-length
-    returns)
+    (tie.spec (λ c κs. search needs) put-byte-requires put-hex-requires-2 put-byte-requires-2 put-form-requires put-byte-requires-3 (λ c. search needs) returns)

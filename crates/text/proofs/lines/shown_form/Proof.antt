@@ -8,18 +8,6 @@ use borrow.Author.Needs.{needs}
 use Rattle.text.proofs.lines.shown_form.Statement.{statement}
 use Rattle.text.proofs.lines.shown_form.Tie as tie
 
-text-form-requires : tie.Need-text-form-requires
-text-form-requires c κs = search needs
-
-form-len-requires : tie.Need-form-len-requires
-form-len-requires c κs = search needs
-
-too-long-requires : tie.Need-too-long-requires
-too-long-requires c κs = search needs
-
-long-form-requires : tie.Need-long-form-requires
-long-form-requires c κs = search needs
-
 returns : tie.Need-returns
 returns c = too-long-shown (formText (c .before .before .before .before .text-form .result)) _ _ (c .before .before .before .before .text-form .ensures) (let h = ltb-true 20 (c .before .before .before .form-len .result) (sym (c .before .before .too-long .ensures) ∙ c .before .if1 .taken) in omega arith) (c .long-form .ensures)
 
@@ -29,10 +17,4 @@ returns-2 c = shown-whole _ _ (c .before .before .before .text-form .ensures) (l
 pub shown-form-spec : {M : Type 1} → statement M
 shown-form-spec =
     tie.close
-    (tie.spec
-    text-form-requires
-    form-len-requires
-    too-long-requires
-    long-form-requires
-    returns
-    returns-2)
+    (tie.spec (λ c κs. search needs) (λ c κs. search needs) (λ c κs. search needs) (λ c κs. search needs) returns returns-2)

@@ -5,23 +5,8 @@ use borrow.Author.Needs.{needs}
 use Rattle.text.proofs.lines.word_form.Statement.{statement}
 use Rattle.text.proofs.lines.word_form.Tie as tie
 
-read-word-lent-requires : tie.Need-read-word-lent-requires
-read-word-lent-requires c κs = search needs
-
-enum-known-r : tie.Need-enum-known-r
-enum-known-r c = search needs
-
-number-requires : tie.Need-number-requires
-number-requires c κs = search needs
-
 refused-form-requires : tie.Need-refused-form-requires
 refused-form-requires c κs = small-number _ _ (c .number .ensures)
-
-enum-known-r-2 : tie.Need-enum-known-r-2
-enum-known-r-2 c = search needs
-
-shown-form-requires : tie.Need-shown-form-requires
-shown-form-requires c κs = search needs
 
 returns : tie.Need-returns
 returns c = refused-word (c .before .before .before .before .before .before .before .before .before .before .before .before .args .c) (c .before .before .before .before .before .before .before .before .before .before .before .before .args .w) _ _ _ (read-here _ _ _ (c .before .before .before .before .before .before .before .before .before .before .before .before .args .c) (c .before .before .before .before .before .before .before .before .before .before .before .before .args .w) _ _ (c .before .before .before .before .before .before .before .before .before .before .before .before .pre .0) (c .before .before .before .before .before .before .before .before .before .before .before .before .fits .w .fits) (c .before .before .before .r .given .1) (c .before .before .before .before .before .read-word-lent .ensures)) (c .before .number .ensures) (c .refused-form .ensures)
@@ -32,12 +17,4 @@ returns-2 c = decoded-word (c .before .before .before .before .before .before .b
 pub word-form-spec : {M : Type 1} → statement M
 word-form-spec =
     tie.close
-    (tie.spec
-    read-word-lent-requires
-    enum-known-r
-    number-requires
-    refused-form-requires
-    enum-known-r-2
-    shown-form-requires
-    returns
-    returns-2)
+    (tie.spec (λ c κs. search needs) (λ c. search needs) (λ c κs. search needs) refused-form-requires (λ c. search needs) (λ c κs. search needs) returns returns-2)

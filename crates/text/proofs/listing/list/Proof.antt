@@ -4,14 +4,8 @@ use borrow.Author.Needs.{needs}
 use Rattle.text.proofs.listing.list.Statement.{statement}
 use Rattle.text.proofs.listing.list.Tie as tie
 
-list-answer-requires : tie.Need-list-answer-requires
-list-answer-requires c κs = search needs
-
-same-length : tie.Need-same-length
-same-length c = search needs
-
 returns : tie.Need-returns
 returns c = lists _ _ _ _ _ _ _ (c .before .before .list-answer .ensures)
 
 pub list-spec : {M : Type 1} → statement M
-list-spec = tie.close (tie.spec list-answer-requires same-length returns)
+list-spec = tie.close (tie.spec (λ c κs. search needs) (λ c. search needs) returns)

@@ -17,26 +17,8 @@ Inv-loop c classes bases packs strings sizes styles image first page₀ place at
 abbrev μ-loop : tie.MeasureT-loop
 μ-loop c classes bases packs strings sizes styles image first page₀ place at₀ a₀ page at a = length image - a
 
-loop-holds : tie.Need-loop-holds Inv-loop μ-loop
-loop-holds c = search needs
-
-mul-w : tie.Need-mul-w Inv-loop μ-loop
-mul-w c = search needs
-
-shared-slice-read-w : tie.Need-shared-slice-read-w Inv-loop μ-loop
-shared-slice-read-w c = search needs
-
 word-form-requires : tie.Need-word-form-requires Inv-loop μ-loop
 word-form-requires c κs = c .before .before .before .before .before .before .before .before .before .before .before .pre
-
-line-len-requires : tie.Need-line-len-requires Inv-loop μ-loop
-line-len-requires c κs = search needs
-
-has-room-requires : tie.Need-has-room-requires Inv-loop μ-loop
-has-room-requires c κs = search needs
-
-same-length : tie.Need-same-length Inv-loop μ-loop
-same-length c = search needs
 
 returns : tie.Need-returns Inv-loop μ-loop
 returns c = stops (c .before .before .before .before .before .before .before .before .before .before .before .before .before .before .before .args .c) (c .before .before .before .before .before .before .before .before .before .before .before .before .before .before .before .args .image .now) (c .before .before .before .before .before .before .loop .page) (c .before .before .before .before .before .before .loop .at) (c .before .before .before .before .before .before .loop .a) _ _ (formText (c .before .before .before .word-form .result)) _ refl (c .before .before .before .word-form .ensures) (c .before .before .line-len .ensures .0) (c .before .has-room .ensures) (c .before .before .before .before .before .loop-test .taken) (c .if1 .taken) ∙ c .before .before .before .before .before .before .loop .inv .1
@@ -47,14 +29,8 @@ put-line-requires c κs = let h = has-place _ (c .before .before .before .before
 add-a : tie.Need-add-a Inv-loop μ-loop
 add-a c = omega (arith, c .before .before .before .before .before .before .before .before .before .loop-test .taken, c .before .before .before .before .before .before .before .before .before .before .before .before .before .before .before .before .before .before .before .good .1 .1 .1 .1 .1 .1 .1 .0)
 
-loop-less : tie.Need-loop-less Inv-loop μ-loop
-loop-less c = search needs
-
 loop-again : tie.Need-loop-again Inv-loop μ-loop
 loop-again c = (search needs, goes-on (c .before .before .before .before .before .before .before .before .before .before .before .before .before .before .before .before .before .before .before .args .c) (c .before .before .before .before .before .before .before .before .before .before .before .before .before .before .before .before .before .before .before .args .image .now) (c .before .before .before .before .before .before .before .before .before .before .loop .page) (c .before .before .before .before .before .before .before .before .before .before .loop .at) (c .before .before .before .before .before .before .before .before .before .before .loop .a) _ _ (formText (c .before .before .before .before .before .before .before .word-form .result)) _ refl (c .before .before .before .before .before .before .before .word-form .ensures) (c .before .before .before .before .before .before .line-len .ensures .0) (c .before .before .before .before .before .has-room .ensures) (c .before .before .before .before .before .before .before .before .before .loop-test .taken) (c .before .before .before .before .if1 .left) (c .before .before .put-line .ensures) ∙ c .before .before .before .before .before .before .before .before .before .before .loop .inv .1)
-
-same-length-2 : tie.Need-same-length-2 Inv-loop μ-loop
-same-length-2 c = search needs
 
 returns-2 : tie.Need-returns-2 Inv-loop μ-loop
 returns-2 c = ends _ (c .before .before .before .before .before .before .before .before .before .before .args .image .now) _ _ (c .before .loop .a) (c .loop-test .left) ∙ c .before .loop .inv .1
@@ -62,20 +38,4 @@ returns-2 c = ends _ (c .before .before .before .before .before .before .before 
 pub list-lines-spec : {M : Type 1} → statement M
 list-lines-spec =
     tie.close
-    (tie.spec
-    Inv-loop
-    μ-loop
-    loop-holds
-    mul-w
-    shared-slice-read-w
-    word-form-requires
-    line-len-requires
-    has-room-requires
-    same-length
-    returns
-    put-line-requires
-    add-a
-    loop-less
-    loop-again
-    same-length-2
-    returns-2)
+    (tie.spec Inv-loop μ-loop (λ c. search needs) (λ c. search needs) (λ c. search needs) word-form-requires (λ c κs. search needs) (λ c κs. search needs) (λ c. search needs) returns put-line-requires add-a (λ c. search needs) loop-again (λ c. search needs) returns-2)

@@ -4,14 +4,8 @@ use borrow.Author.Needs.{needs}
 use Rattle.text.proofs.listing.list_number.Statement.{statement}
 use Rattle.text.proofs.listing.list_number.Tie as tie
 
-lawful-requires : tie.Need-lawful-requires
-lawful-requires c κs = search needs
-
 returns : tie.Need-returns
 returns c = number-1 (c .before .before .args .c) (c .before .before .args .words) (c .before .before .args .size) (c .before .before .args .place) _ (c .before .lawful .ensures) (c .if1 .taken)
-
-cast-if2 : tie.Need-cast-if2
-cast-if2 c = search needs
 
 returns-2 : tie.Need-returns-2
 returns-2 c = number-2 (c .before .before .before .before .args .c) (c .before .before .before .before .args .words) (c .before .before .before .before .args .size) (c .before .before .before .before .args .place) _ (c .before .before .before .lawful .ensures) (c .before .before .if1 .left) (c .if2 .taken)
@@ -24,4 +18,4 @@ returns-4 c = number-0 (c .before .before .before .before .before .args .c) (c .
 
 pub list-number-spec : {M : Type 1} → statement M
 list-number-spec =
-    tie.close (tie.spec lawful-requires returns cast-if2 returns-2 returns-3 returns-4)
+    tie.close (tie.spec (λ c κs. search needs) returns (λ c. search needs) returns-2 returns-3 returns-4)

@@ -7,14 +7,8 @@ use borrow.Author.Needs.{needs}
 use Rattle.text.proofs.texts.text_number.Statement.{statement}
 use Rattle.text.proofs.texts.text_number.Tie as tie
 
-has-room-requires : tie.Need-has-room-requires
-has-room-requires c κs = search needs
-
 returns : tie.Need-returns
 returns c = number-18 (c .before .before .args .size) (c .before .before .args .place) (c .before .before .args .n) _ (c .before .has-room .ensures) (c .if1 .taken)
-
-too-long-requires : tie.Need-too-long-requires
-too-long-requires c κs = search needs
 
 returns-2 : tie.Need-returns-2
 returns-2 c = number-23 (c .before .before .before .before .args .size) (c .before .before .before .before .args .place) (c .before .before .before .before .args .n) _ (c .before .before .before .has-room .ensures) (c .before .before .if1 .left) (ltb-true 20 (c .before .before .before .before .args .n) (sym (c .before .too-long .ensures) ∙ c .if2 .taken))
@@ -24,4 +18,4 @@ returns-3 c = number-0 (c .before .before .before .before .args .size) (c .befor
 
 pub text-number-spec : {M : Type 1} → statement M
 text-number-spec =
-    tie.close (tie.spec has-room-requires returns too-long-requires returns-2 returns-3)
+    tie.close (tie.spec (λ c κs. search needs) returns (λ c κs. search needs) returns-2 returns-3)

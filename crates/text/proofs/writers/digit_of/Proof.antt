@@ -6,12 +6,6 @@ use borrow.Author.Needs.{needs}
 use Rattle.text.proofs.writers.digit_of.Statement.{statement}
 use Rattle.text.proofs.writers.digit_of.Tie as tie
 
-add-result : tie.Need-add-result
-add-result c = search needs
-
-add-result-2 : tie.Need-add-result-2
-add-result-2 c = search needs
-
 returns : tie.Need-returns
 unfolding digit pick
 returns c = rw (lt-ltb _ 10 (c .if1 .taken))
@@ -21,4 +15,4 @@ unfolding digit pick
 returns-2 c = rw (le-ltb _ 10 (c .if1 .left))
 
 pub digit-of-spec : {M : Type 1} → statement M
-digit-of-spec = tie.close (tie.spec add-result add-result-2 returns returns-2)
+digit-of-spec = tie.close (tie.spec (λ c. search needs) (λ c. search needs) returns returns-2)
