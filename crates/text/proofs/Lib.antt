@@ -1,0 +1,5 @@
+pub mod Writing
+pub mod Pieces
+pub mod Printing
+pub mod Listings
+pub mod Whole

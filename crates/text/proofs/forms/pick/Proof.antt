@@ -1,0 +1,15 @@
+-- `text::forms::pick` meets its contract. Assumes nothing.
+use Rattle.laws.specs.Choice.{pick}
+use Rattle.text.proofs.forms.pick.Statement.{statement}
+use Rattle.text.proofs.forms.pick.Tie as tie
+
+returns : tie.Need-returns
+unfolding pick
+returns c = rw (c .if1 .taken)
+
+returns-2 : tie.Need-returns-2
+unfolding pick
+returns-2 c = rw (c .if1 .left)
+
+pub pick-spec : {M : Type 1} → statement M
+pick-spec = tie.close (tie.spec returns returns-2)

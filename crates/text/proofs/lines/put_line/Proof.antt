@@ -1,0 +1,32 @@
+-- `text::lines::put_line` meets its contract. Assumes nothing.
+use native.Mathlib.Omega.{arith}
+use Rattle.text.specs.Digits.{digit}
+use Rattle.text.specs.Lines.{lineOf}
+use Rattle.text.proofs.Writing.{then, length-spelled}
+use borrow.Author.Needs.{needs}
+use Rattle.text.proofs.lines.put_line.Statement.{statement}
+use Rattle.text.proofs.lines.put_line.Tie as tie
+
+put-byte-requires : tie.Need-put-byte-requires
+put-byte-requires c κs = omega (arith, length-spelled digit 16 6 (c .before .before .before .before .before .before .args .a), length-spelled digit 16 8 (c .before .before .before .before .before .before .args .w))
+
+put-hex-requires-2 : tie.Need-put-hex-requires-2
+put-hex-requires-2 c κs = omega (arith, length-spelled digit 16 6 (c .before .before .before .before .before .before .before .before .before .before .args .a), length-spelled digit 16 8 (c .before .before .before .before .before .before .before .before .before .before .args .w))
+
+put-byte-requires-2 : tie.Need-put-byte-requires-2
+put-byte-requires-2 c κs = omega (arith, length-spelled digit 16 6 (c .before .before .before .before .before .before .before .before .before .before .before .before .before .before .args .a), length-spelled digit 16 8 (c .before .before .before .before .before .before .before .before .before .before .before .before .before .before .args .w))
+
+put-form-requires : tie.Need-put-form-requires
+put-form-requires c κs = omega (arith, length-spelled digit 16 6 (c .before .before .before .before .before .before .before .before .before .before .before .before .before .before .before .before .before .before .args .a), length-spelled digit 16 8 (c .before .before .before .before .before .before .before .before .before .before .before .before .before .before .before .before .before .before .args .w))
+
+put-byte-requires-3 : tie.Need-put-byte-requires-3
+put-byte-requires-3 c κs = omega (arith, length-spelled digit 16 6 (c .before .before .before .before .before .before .before .before .before .before .before .before .before .before .before .before .before .before .before .before .before .before .args .a), length-spelled digit 16 8 (c .before .before .before .before .before .before .before .before .before .before .before .before .before .before .before .before .before .before .before .before .before .before .args .w))
+
+returns : tie.Need-returns
+unfolding lineOf
+returns c = then (c .before .before .before .before .before .before .before .before .before .before .before .before .before .before .before .before .before .before .before .before .before .before .put-hex .ensures) (then (c .before .before .before .before .before .before .before .before .before .before .before .before .before .before .before .before .before .before .put-byte .ensures) (then (c .before .before .before .before .before .before .before .before .before .before .before .before .before .before .put-hex2 .ensures) (then (c .before .before .before .before .before .before .before .before .before .before .put-byte2 .ensures) (then (c .before .before .before .before .before .before .put-form .ensures) (c .before .before .put-byte3 .ensures)))))
+
+pub put-line-spec : {M : Type 1} → statement M
+put-line-spec =
+    tie.close
+    (tie.spec (λ c κs. search needs) put-byte-requires put-hex-requires-2 put-byte-requires-2 put-form-requires put-byte-requires-3 (λ c. search needs) returns)

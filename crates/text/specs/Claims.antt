@@ -1,0 +1,51 @@
+-- What is proved of a listing beside the equation. The contract of `list` cites these, so that none can be dropped.
+use Prim.Native.Nat.{ℕ, _+_, _-_, _≤_}
+use mathlib.Core.Path.{_≡_}
+use mathlib.Core.List.{List, _++_}
+use lib.ListN.{length, take, drop}
+use lib.Seq.{slice}
+use Rattle.laws.specs.Test.{Holds}
+use Rattle.words.specs.declared.Config.{Config}
+use Rattle.words.specs.Configs.{lawful}
+use Rattle.text.specs.declared.Listed.{Listed}
+use Rattle.text.specs.Pages.{written}
+use Rattle.text.specs.Lines.{linesFrom, Listing, listing, listOf}
+use Rattle.text.specs.Answers.{listedOf}
+
+-- all lines from an address to the image's end
+abbrev pub linesToEnd : Config → List ℕ → ℕ → List ℕ
+linesToEnd c image first = linesFrom c image first (length image - first)
+
+-- what a listing from a place on printed
+abbrev pub printedFrom : ℕ → Listing → List ℕ
+printedFrom place r = slice place (r .place) (r .page)
+
+-- The listing of an image from 0 on a page that is large enough is the concatenation of its lines.
+abbrev pub ListsWhole : Type 0
+ListsWhole =
+    (c : Config) (image page : List ℕ) (place : ℕ) → Holds (lawful c) → length image ≡ c .imsize → place + length (linesToEnd c image 0) ≤ length page →
+    listOf c image 0 page place ≡
+    listing 0 (place + length (linesToEnd c image 0)) (length image) (written page place (linesToEnd c image 0))
+
+-- A listing in two parts, the second from the answered address on a new page from place 0, prints what a listing in one prints: where the second part and
+-- the one pass.
+abbrev pub ListsInParts : Type 0
+ListsInParts =
+    (c : Config) (image : List ℕ) (first : ℕ) (page : List ℕ) (place : ℕ) (new wide : List ℕ) (from : ℕ) →
+    let one = listOf c image first page place in
+    let two = listOf c image (one .next) new 0 in
+    let whole = listOf c image first wide from in
+    two .number ≡ 0 → whole .number ≡ 0 → printedFrom place one ++ printedFrom 0 two ≡ printedFrom from whole
+
+-- Whatever a listing answers, the page's bytes before the place and after the last whole line are as they were.
+abbrev pub ListsKeep : Type 0
+ListsKeep =
+    (c : Config) (image : List ℕ) (first : ℕ) (page : List ℕ) (place : ℕ) → let r = listOf c image first page place in
+    (take place (r .page) ≡ take place page) × (drop (r .place) (r .page) ≡ drop (r .place) page) × (length (r .page) ≡ length page)
+
+-- what `list` promises of its answer r and of the page after it
+pub record Lists (c : Config) (image : List ℕ) (first : ℕ) (page : List ℕ) (place : ℕ) (r : Listed) (after : List ℕ) : Type 0 where
+  pub answer : listedOf r after ≡ listOf c image first page place
+  pub whole : ListsWhole
+  pub parts : ListsInParts
+  pub keeps : ListsKeep

@@ -1,0 +1,113 @@
+// The listing of an image.
+ghost use mathlib.Core.Path.{_≡_};
+ghost use Prim.Native.Nat.{_-_};
+ghost use lib.ListN.{length};
+ghost use Rattle.words.specs.Packed.{Tables};
+ghost use Rattle.text.specs.Answers.{listedOf};
+ghost use Rattle.text.specs.Claims.{Lists};
+ghost use Rattle.text.specs.Lines.{listed, listNumber, listOf};
+ghost use Rattle.text.specs.Packed.{Lent};
+use crate::Listed;
+use crate::lines::line_len;
+use crate::lines::put_line;
+use crate::lines::word_form;
+use crate::tables::size_table;
+use crate::tables::string_table;
+use crate::tables::style_table;
+use crate::texts::has_room;
+use words::Config;
+
+// Whole lines from an address to the image's end, as long as the next has room.
+fn list_lines(
+    c: Config,
+    classes: &[u8],
+    bases: &[u32],
+    packs: &[u64],
+    strings: &[u64],
+    sizes: &[u8],
+    styles: &[u64],
+    image: &[u32],
+    first: usize,
+    page: &mut [u8],
+    place: usize,
+) -> Listed
+    requires { ⌜ Tables (now classes) (now bases) (now packs) × Lent (now strings) (now sizes) (now styles) ⌝ }
+    ensures { λ r. ⌜ listedOf r (now (page .exit)) ≡ listed c (now (image .entry)) (now (page .entry)) place first (length (now (image .entry)) - first) ⌝ }
+{
+    let mut at = place;
+    let mut a = first;
+    while a < image.len() {
+        let w = image[a];
+        let f = word_form(c, classes, bases, packs, strings, sizes, styles, w);
+        if !has_room(page.len(), at, line_len(f)) {
+            return Listed {
+                number: 18,
+                place: at,
+                next: a,
+            };
+        }
+        at = put_line(page, at, a, w, f);
+        a += 1;
+    }
+    Listed {
+        number: 0,
+        place: at,
+        next: a,
+    }
+}
+
+// 1, 2, and 18 for a place beyond the page.
+fn list_number(c: Config, words: usize, size: usize, place: usize) -> u32
+    ensures { λ r. ⌜ r ≡ listNumber c words size place ⌝ }
+{
+    if !c.lawful() {
+        return 1;
+    }
+    if words != c.imsize as usize {
+        return 2;
+    }
+    if size < place {
+        return 18;
+    }
+    0
+}
+
+// The listing's answer: 1, 2, 18 for a place beyond the page, or what the lines give.
+fn list_answer(c: Config, image: &[u32], first: usize, page: &mut [u8], place: usize) -> Listed
+    ensures { λ r. ⌜ listedOf r (now (page .exit)) ≡ listOf c (now (image .entry)) first (now (page .entry)) place ⌝ }
+{
+    let n = list_number(c, image.len(), page.len(), place);
+    if n != 0 {
+        return Listed {
+            number: n,
+            place,
+            next: first,
+        };
+    }
+    let classes = words::class_table();
+    let bases = words::base_table();
+    let packs = words::row_table();
+    let strings = string_table();
+    let sizes = size_table();
+    let styles = style_table();
+    list_lines(
+        c,
+        &classes,
+        &bases,
+        &packs,
+        &strings,
+        &sizes,
+        &styles,
+        image,
+        first,
+        page,
+        place,
+    )
+}
+
+// Appends whole lines from address `first` to the image's end. 18 keeps the whole lines; every other byte of the page stays (specs/Claims.antt).
+pub fn list(c: Config, image: &[u32], first: usize, page: &mut [u8], place: usize) -> Listed
+    ensures { λ r. ⌜ Lists c (now (image .entry)) first (now (page .entry)) place r (now (page .exit)) ⌝ }
+{
+    list_answer(c, image, first, page, place)
+}
