@@ -29,74 +29,42 @@ impl Setting {
     }
 }
 
-// Each value in a variable: fields are taken in the order of the input.
-pub fn config() -> Config {
-    let imwidth = number();
-    let imsize = number();
-    let regwidth = number();
-    let regsize = number();
-    let rmsize = number();
-    let pcstack = number();
-    let dmsize = number();
-    let dmpipe = number();
-    let alulevel = number();
-    let alumult = number();
-    let aluspr = number();
-    let iopif = number();
-    let ioprmw = number();
-    let yamclk = number();
-    let yamsreg3 = number();
-    let alu3op = number();
-    let irqif = number();
-    let copmsize = number();
-    let yamdbg = number();
+// The configuration of 19 numbers in its order.
+fn config_of(n: [u32; 19]) -> Config {
     Config {
-        imwidth,
-        imsize,
-        regwidth,
-        regsize,
-        rmsize,
-        pcstack,
-        dmsize,
-        dmpipe,
-        alulevel,
-        alumult,
-        aluspr,
-        iopif,
-        ioprmw,
-        yamclk,
-        yamsreg3,
-        alu3op,
-        irqif,
-        copmsize,
-        yamdbg,
+        imwidth: n[0],
+        imsize: n[1],
+        regwidth: n[2],
+        regsize: n[3],
+        rmsize: n[4],
+        pcstack: n[5],
+        dmsize: n[6],
+        dmpipe: n[7],
+        alulevel: n[8],
+        alumult: n[9],
+        aluspr: n[10],
+        iopif: n[11],
+        ioprmw: n[12],
+        yamclk: n[13],
+        yamsreg3: n[14],
+        alu3op: n[15],
+        irqif: n[16],
+        copmsize: n[17],
+        yamdbg: n[18],
     }
 }
 
+pub fn config() -> Config {
+    let mut n = [0u32; 19];
+    for at in 0..19 {
+        n[at] = number();
+    }
+    config_of(n)
+}
+
 pub fn no_setting() -> Setting {
-    let config = Config {
-        imwidth: 0,
-        imsize: 0,
-        regwidth: 0,
-        regsize: 0,
-        rmsize: 0,
-        pcstack: 0,
-        dmsize: 0,
-        dmpipe: 0,
-        alulevel: 0,
-        alumult: 0,
-        aluspr: 0,
-        iopif: 0,
-        ioprmw: 0,
-        yamclk: 0,
-        yamsreg3: 0,
-        alu3op: 0,
-        irqif: 0,
-        copmsize: 0,
-        yamdbg: 0,
-    };
     Setting {
-        config: config,
+        config: config_of([0; 19]),
         bytes: 0,
         words: 0,
     }
@@ -108,25 +76,31 @@ fn put(name: &[u8], n: u32) {
 }
 
 fn put_config(c: Config) {
-    put(b": ", c.imwidth);
-    put(b" ", c.imsize);
-    put(b" ", c.regwidth);
-    put(b" ", c.regsize);
-    put(b" ", c.rmsize);
-    put(b" ", c.pcstack);
-    put(b" ", c.dmsize);
-    put(b" ", c.dmpipe);
-    put(b" ", c.alulevel);
-    put(b" ", c.alumult);
-    put(b" ", c.aluspr);
-    put(b" ", c.iopif);
-    put(b" ", c.ioprmw);
-    put(b" ", c.yamclk);
-    put(b" ", c.yamsreg3);
-    put(b" ", c.alu3op);
-    put(b" ", c.irqif);
-    put(b" ", c.copmsize);
-    put(b" ", c.yamdbg);
+    let n = [
+        c.imwidth,
+        c.imsize,
+        c.regwidth,
+        c.regsize,
+        c.rmsize,
+        c.pcstack,
+        c.dmsize,
+        c.dmpipe,
+        c.alulevel,
+        c.alumult,
+        c.aluspr,
+        c.iopif,
+        c.ioprmw,
+        c.yamclk,
+        c.yamsreg3,
+        c.alu3op,
+        c.irqif,
+        c.copmsize,
+        c.yamdbg,
+    ];
+    io::write_all(1, b":");
+    for at in 0..19 {
+        put(b" ", n[at]);
+    }
 }
 
 fn put_cell(at: usize, value: u32) {
