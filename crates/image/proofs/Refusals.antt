@@ -1,12 +1,11 @@
 -- The first that fails, as code with early returns finds it. Assumes nothing.
-use mathlib.Core.Path.{_≡_, refl, sym, _∙_}
-use mathlib.Core.Bool.{true, false}
-use mathlib.Core.List.{List, _∷_, _++_}
+use mathlib.Core.Path.{_≡_}
+use mathlib.Core.List.{List, _++_}
 use Prim.Native.Nat.{ℕ}
 use borrow.Author.Tests.{ne-eqb}
-use lib.Dec.{T, eqb}
+use lib.Dec.{T}
 use Rattle.laws.specs.Choice.{pick}
-use Rattle.laws.specs.Test.{Test, test}
+use Rattle.laws.specs.Test.{Test}
 use Rattle.laws.specs.First.{first-failing, positive, first-append}
 
 -- of one list after another

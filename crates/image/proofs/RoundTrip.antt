@@ -1,28 +1,26 @@
 -- A stored image loads back. Assumes nothing.
 use mathlib.Core.Path.{_≡_, refl, sym, ap, _∙_}
-use mathlib.Core.Bool.{Bool, true, false}
+use mathlib.Core.Bool.{true}
 use mathlib.Core.List.{List, [], _∷_, _++_}
 use Prim.Native.Nat.{ℕ, zero, suc, _+_, _-_, _*_, _/_, _%_, _^_, _<_, _≤_}
 use native.Mathlib.Nat.{add-zero, zero-add, add-suc, suc-add, div-div-eq-div-mul, mod-add-div'}
 use native.Mathlib.Numerals.{add-one}
 use native.Mathlib.Omega.{arith}
 use borrow.Author.Tests.{eq-eqb, ne-eqb, le-leb}
-use lib.Dec.{T, eqb}
-use lib.ListN.{length, getD, drop, length-append, List·getD-append, List·getD-eq-default}
+use lib.ListN.{length, getD, length-append, List·getD-append, List·getD-eq-default}
 use lib.Seq.{getD-append-add, getD-at}
 use Rattle.laws.specs.Choice.{pick, is-true}
-use Rattle.laws.specs.Test.{Test, test, Holds, tests, each, less, same, _and_, Below}
+use Rattle.laws.specs.Test.{test, Holds, tests, each, less, same, _and_, Below}
 use Rattle.laws.specs.First.{first-failing, numbered, obeyed}
-use Rattle.laws.specs.Table.{values, value-at}
 use Rattle.laws.specs.Cells.{below-at}
 use Rattle.words.specs.declared.Config.{Config}
 use Rattle.words.specs.Configs.{lawful}
 use Rattle.image.specs.File.{wordAt, wordsAt, total, checksum, blocksFor, fileSize, firstFilling, configOf, imageWord, imageWords}
-use Rattle.image.specs.Loading.{zeros, blockTests, blocksTests, headTests, restTests, Load, loadOf}
+use Rattle.image.specs.Loading.{zeros, blockTests, blocksTests, headTests, restTests, loadOf}
 use Rattle.image.specs.Storing.{bytesOf, filled, blockOf, blocksOf, headOf, fileOf, storeTests, Store, storeOf}
 use Rattle.image.specs.Claims.{Words, loaded, StoreThenLoad, Stores}
-use Rattle.image.proofs.Lists.{length-values, values-getD, values-list, below-values, below-append}
-use Rattle.image.proofs.Lawful.{Fixed, size, fixed, small}
+use Rattle.image.proofs.Lists.{values-getD, values-list, below-values, below-append}
+use Rattle.image.proofs.Lawful.{size, fixed, small}
 use Rattle.image.proofs.Refusals.{part-passes}
 use Rattle.image.proofs.blocks.Laws.{block-right, block-positive}
 use Rattle.image.proofs.loading.Laws.{head-is, rest-is, load-is}

@@ -1,16 +1,16 @@
 -- Laws of words, checksums and padding, in the shape that the loops leave. Assumes nothing.
 use mathlib.Core.Path.{_≡_, refl, sym, ap, _∙_}
-use mathlib.Core.Bool.{true, false, _&&_}
-use mathlib.Core.List.{List, [], _∷_, _++_}
-use Prim.Native.Nat.{ℕ, zero, suc, _+_, _-_, _*_, _%_, _^_, _<_, _≤_}
+use mathlib.Core.Bool.{true, false}
+use mathlib.Core.List.{List}
+use Prim.Native.Nat.{ℕ, zero, suc, _+_, _-_, _*_, _%_, _^_, _<_}
 use native.Mathlib.Nat.{add-zero, mod-add-mod}
 use native.Mathlib.Numerals.{add-one}
 use native.Mathlib.Omega.{arith}
 use borrow.Author.Tests.{eq-eqb, ne-eqb, lt-ltb, le-ltb}
-use lib.Dec.{T, ltb}
+use lib.Dec.{T}
 use Rattle.laws.specs.Choice.{pick}
 use Rattle.laws.specs.Table.{values}
-use Rattle.laws.specs.Test.{Test, test}
+use Rattle.laws.specs.Test.{test}
 use Rattle.laws.specs.First.{first-failing, positive}
 use Rattle.image.specs.File.{wordAt, wordsAt, total, checksum}
 use Rattle.image.specs.Loading.{zeros, blockTests, blocksTests}

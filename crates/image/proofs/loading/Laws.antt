@@ -1,22 +1,21 @@
 -- Laws of copying the image and of the answers' order. Assumes nothing.
 use mathlib.Core.Path.{_≡_, refl, sym, ap, _∙_}
 use mathlib.Core.Bool.{Bool, true, false}
-use mathlib.Core.List.{List, [], _∷_, _++_}
-use Prim.Native.Nat.{ℕ, zero, suc, _+_, _-_, _*_, _/_, _%_, _<_, _≤_}
+use mathlib.Core.List.{List, _++_}
+use Prim.Native.Nat.{ℕ, zero, suc, _+_, _-_, _*_, _%_, _<_, _≤_}
 use native.Mathlib.Nat.{add-zero, zero-add}
 use native.Mathlib.Omega.{arith}
 use borrow.Author.Tests.{ne-eqb}
 use lib.Dec.{T, leb, eqb, leb→le, eqb→eq}
 use lib.ListN.{length, set, drop}
 use lib.Seq.{sets, sets-eq}
-use Rattle.laws.specs.Table.{values}
 use Rattle.laws.specs.Choice.{pick, true-is}
 use Rattle.laws.specs.Test.{test, holds, less, same, _and_}
 use Rattle.laws.specs.First.{first-failing, first-append, positive, numbered, obeyed}
 use Rattle.words.specs.declared.Config.{Config}
 use Rattle.words.specs.Configs.{lawful}
 use Rattle.image.specs.File.{wordAt, wordsAt, blocksFor, fileSize, firstFilling, configOf, imageWord, imageWords}
-use Rattle.image.specs.Loading.{zeros, blockTests, blocksTests, headTests, restTests, loadNumber, noConfig, Load, loadOf}
+use Rattle.image.specs.Loading.{zeros, blockTests, blocksTests, headTests, restTests, loadNumber, noConfig, loadOf}
 use Rattle.image.proofs.blocks.Laws.{block-positive, blocks-positive}
 use Rattle.image.proofs.Lists.{sets-append, length-values, values-at, values-split, values-same}
 

@@ -2,13 +2,11 @@
 use mathlib.Core.Path.{_≡_, refl, sym, ap, _∙_}
 use mathlib.Core.List.{List, [], _∷_, _++_, append-nil}
 use Prim.Native.Nat.{ℕ, zero, suc, _+_, _-_, _*_, _%_, _^_, _<_, _≤_}
-use native.Mathlib.Nat.{add-zero, zero-add, add-suc, suc-add, mod-add-mod}
-use native.Mathlib.Numerals.{add-one}
+use native.Mathlib.Nat.{add-zero, mod-add-mod}
 use native.Mathlib.Omega.{arith}
-use lib.ListN.{length, getD, set, drop, length-append, drop-of-length-le}
+use lib.ListN.{length, getD, set, length-append, drop-of-length-le}
 use lib.Seq.{sets, sets-eq}
 use Rattle.laws.specs.First.{first-failing, numbered, obeyed}
-use Rattle.laws.specs.Table.{values}
 use Rattle.image.specs.File.{total, checksum, blocksFor, fileSize}
 use Rattle.image.specs.Storing.{bytesOf, filled, blockOf, blocksOf, headOf, fileOf, storeTests}
 use Rattle.words.specs.declared.Config.{Config}

@@ -1,8 +1,7 @@
 -- `image::blocks::block_refusal` meets its contract. Assumes nothing.
-use mathlib.Core.Path.{_≡_, refl, sym, ap, _∙_}
-use Prim.Native.Nat.{ℕ, _+_, _-_, _*_, _%_, _^_, _<_, _≤_}
+use mathlib.Core.Path.{sym, _∙_}
+use Prim.Native.Nat.{_-_}
 use native.Mathlib.Omega.{arith}
-use Rattle.image.specs.File.{wordAt, wordsAt, checksum}
 use Rattle.image.proofs.blocks.Laws.{block-number, block-sum, block-right}
 use borrow.Author.Needs.{needs}
 use Rattle.image.proofs.blocks.block_refusal.Statement.{statement}

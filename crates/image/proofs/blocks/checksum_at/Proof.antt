@@ -1,10 +1,9 @@
 -- `image::blocks::checksum_at` meets its contract. Assumes nothing.
 use borrow.Author.Needs.{needs}
-use mathlib.Core.Path.{_≡_, refl, sym, ap, _∙_}
-use Prim.Native.Nat.{ℕ, _+_, _-_, _*_, _%_, _^_, _<_, _≤_}
+use mathlib.Core.Path.{_≡_, sym, _∙_}
+use Prim.Native.Nat.{_+_, _-_, _%_, _^_, _<_, _≤_}
 use native.Mathlib.Omega.{arith}
-use lib.ListN.{length}
-use Rattle.image.specs.File.{wordAt, wordsAt, total, checksum}
+use Rattle.image.specs.File.{wordsAt, total, checksum}
 use Rattle.image.proofs.blocks.Laws.{words-start, words-next, words-end}
 use Rattle.image.proofs.blocks.checksum_at.Statement.{statement}
 use Rattle.image.proofs.blocks.checksum_at.Tie as tie

@@ -1,11 +1,11 @@
 -- `image::blocks::zero_words` meets its contract. Assumes nothing.
 use borrow.Author.Needs.{needs}
-use mathlib.Core.Path.{_≡_, refl, sym, ap, _∙_}
-use Prim.Native.Nat.{ℕ, _+_, _-_, _*_, _%_, _^_, _<_, _≤_}
+use mathlib.Core.Path.{_≡_, sym, _∙_}
+use Prim.Native.Nat.{_+_, _-_, _*_, _≤_}
 use native.Mathlib.Omega.{arith}
 use lib.ListN.{length}
 use Rattle.laws.specs.Test.{test}
-use Rattle.image.specs.File.{wordAt, wordsAt}
+use Rattle.image.specs.File.{wordsAt}
 use Rattle.image.specs.Loading.{zeros}
 use Rattle.image.proofs.blocks.Laws.{not-zero, zero-next, zero-none}
 use Rattle.image.proofs.blocks.zero_words.Statement.{statement}

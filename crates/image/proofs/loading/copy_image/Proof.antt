@@ -1,11 +1,11 @@
 -- `image::loading::copy_image` meets its contract. Assumes nothing.
 use borrow.Author.Needs.{needs}
 use mathlib.Core.Path.{_≡_, refl, sym, ap, _∙_}
-use Prim.Native.Nat.{ℕ, _+_, _-_, _*_, _%_, _^_, _<_, _≤_}
+use Prim.Native.Nat.{_+_, _-_, _*_, _≤_}
 use native.Mathlib.Omega.{arith}
 use lib.ListN.{length}
 use lib.Seq.{sets, length-sets}
-use Rattle.image.specs.File.{wordsAt, imageWords}
+use Rattle.image.specs.File.{imageWords}
 use Rattle.image.proofs.loading.Laws.{block-next, blocks-start, blocks-end}
 use Rattle.image.proofs.loading.copy_image.Statement.{statement}
 use Rattle.image.proofs.loading.copy_image.Tie as tie

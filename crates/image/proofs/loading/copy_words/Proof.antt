@@ -1,11 +1,11 @@
 -- `image::loading::copy_words` meets its contract. Assumes nothing.
 use borrow.Author.Needs.{needs}
-use mathlib.Core.Path.{_≡_, refl, sym, ap, _∙_}
-use Prim.Native.Nat.{ℕ, _+_, _-_, _*_, _%_, _^_, _<_, _≤_}
+use mathlib.Core.Path.{_≡_, refl, sym, _∙_}
+use Prim.Native.Nat.{_+_, _-_, _≤_}
 use native.Mathlib.Omega.{arith}
 use lib.ListN.{length, length-set}
 use lib.Seq.{sets}
-use Rattle.image.specs.File.{wordAt, wordsAt}
+use Rattle.image.specs.File.{wordsAt}
 use Rattle.image.proofs.loading.Laws.{copy-start, copy-next, copy-end}
 use Rattle.image.proofs.loading.copy_words.Statement.{statement}
 use Rattle.image.proofs.loading.copy_words.Tie as tie

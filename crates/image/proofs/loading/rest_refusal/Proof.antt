@@ -1,15 +1,13 @@
 -- `image::loading::rest_refusal` meets its contract. Assumes nothing.
-use mathlib.Core.Path.{_≡_, refl, sym, ap, _∙_}
-use Prim.Native.Nat.{ℕ, _+_, _-_, _*_, _%_, _^_, _<_, _≤_}
+use mathlib.Core.Path.{_≡_, sym, _∙_}
+use Prim.Native.Nat.{_-_, _≤_}
 use native.Mathlib.Omega.{arith}
 use lib.ListN.{length}
 use borrow.Author.Tests.{eq-eqb, ne-eqb, not-true, not-false, le-leb, lt-leb}
 use Rattle.laws.specs.Choice.{pick}
-use Rattle.laws.specs.Test.{test, less, same, _and_}
 use Rattle.laws.specs.First.{first-failing}
-use Rattle.words.specs.Configs.{lawful}
-use Rattle.image.specs.File.{wordAt, wordsAt, blocksFor, fileSize, firstFilling, configOf, imageWords}
-use Rattle.image.specs.Loading.{zeros, blockTests, blocksTests, headTests, restTests}
+use Rattle.image.specs.File.{blocksFor, fileSize}
+use Rattle.image.specs.Loading.{blocksTests}
 use Rattle.image.proofs.loading.Laws.{rest-is, zero-filling}
 use borrow.Author.Needs.{needs}
 use Rattle.image.proofs.loading.rest_refusal.Statement.{statement}

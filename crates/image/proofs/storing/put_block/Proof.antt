@@ -1,7 +1,5 @@
 -- `image::storing::put_block` meets its contract. Assumes nothing.
-use mathlib.Core.Path.{_≡_, refl, sym, ap, _∙_}
-use native.Mathlib.Omega.{arith}
-use Rattle.image.specs.Storing.{bytesOf, filled, blockOf, blocksOf, headOf, fileOf, storeTests, Put}
+use mathlib.Core.Path.{_∙_}
 use Rattle.image.proofs.storing.Laws.{block-put}
 use borrow.Author.Needs.{needs}
 use Rattle.image.proofs.storing.put_block.Statement.{statement}

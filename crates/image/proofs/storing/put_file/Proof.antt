@@ -1,7 +1,4 @@
 -- `image::storing::put_file` meets its contract. Assumes nothing.
-use mathlib.Core.Path.{_≡_, refl, sym, ap, _∙_}
-use native.Mathlib.Omega.{arith}
-use Rattle.image.specs.Storing.{bytesOf, blockOf, headOf, fileOf}
 use Rattle.image.proofs.storing.Laws.{file-put}
 use borrow.Author.Needs.{needs}
 use Rattle.image.proofs.storing.put_file.Statement.{statement}

@@ -1,11 +1,11 @@
 -- `image::storing::put_image` meets its contract. Assumes nothing.
 use borrow.Author.Needs.{needs}
 use mathlib.Core.Path.{_≡_, refl, sym, ap, _∙_}
-use Prim.Native.Nat.{ℕ, _+_, _-_, _*_, _%_, _^_, _<_, _≤_}
+use Prim.Native.Nat.{_+_, _-_, _*_, _≤_}
 use native.Mathlib.Omega.{arith}
 use lib.ListN.{length}
 use lib.Seq.{sets, length-sets}
-use Rattle.image.specs.Storing.{bytesOf, filled, blockOf, blocksOf, headOf, fileOf, storeTests, Put}
+use Rattle.image.specs.Storing.{bytesOf, blocksOf}
 use Rattle.image.proofs.storing.Laws.{image-start, image-next, image-end}
 use Rattle.image.proofs.storing.put_image.Statement.{statement}
 use Rattle.image.proofs.storing.put_image.Tie as tie

@@ -1,9 +1,8 @@
 -- `image::storing::put_word` meets its contract. Assumes nothing.
 use Prim.Native.Nat.{_*_, _/_, _%_}
 -- `image::storing::put_word` meets its contract. Assumes nothing.
-use mathlib.Core.Path.{_≡_, refl, sym, ap, _∙_}
 use native.Mathlib.Omega.{arith}
-use lib.ListN.{length, length-set}
+use lib.ListN.{length-set}
 use Rattle.image.specs.Storing.{bytesOf}
 use Rattle.image.proofs.storing.Laws.{put-four}
 use borrow.Author.Needs.{needs}

@@ -1,12 +1,12 @@
 -- `image::storing::put_words` meets its contract. Assumes nothing.
 use borrow.Author.Needs.{needs}
 use mathlib.Core.Path.{_≡_, refl, sym, ap, _∙_}
-use Prim.Native.Nat.{ℕ, _+_, _-_, _*_, _%_, _^_, _<_, _≤_}
+use Prim.Native.Nat.{_+_, _-_, _*_, _%_, _^_, _<_, _≤_}
 use native.Mathlib.Omega.{arith}
 use lib.ListN.{length}
 use lib.Seq.{sets, length-sets}
-use Rattle.image.specs.File.{total, blocksFor, fileSize}
-use Rattle.image.specs.Storing.{bytesOf, filled, blockOf, blocksOf, headOf, fileOf, storeTests, Put}
+use Rattle.image.specs.File.{total}
+use Rattle.image.specs.Storing.{bytesOf, filled}
 use Rattle.image.proofs.storing.Laws.{put-start, put-next, put-end, add-start, add-next, add-end}
 use Rattle.image.proofs.storing.put_words.Statement.{statement}
 use Rattle.image.proofs.storing.put_words.Tie as tie

@@ -1,10 +1,10 @@
 -- `image::storing::store` meets its contract. Assumes nothing.
-use mathlib.Core.Path.{_≡_, refl, sym, ap, _∙_}
-use Prim.Native.Nat.{ℕ, _+_, _-_, _*_, _%_, _^_, _<_, _≤_}
+use mathlib.Core.Path.{_≡_, sym, _∙_}
+use Prim.Native.Nat.{_-_}
 use native.Mathlib.Omega.{arith}
 use lib.ListN.{length}
 use Rattle.laws.specs.First.{first-failing}
-use Rattle.image.specs.Storing.{storeTests, fileOf}
+use Rattle.image.specs.Storing.{storeTests}
 use Rattle.image.proofs.storing.Laws.{store-passed}
 use Rattle.image.proofs.RoundTrip.{store-refused, stored}
 use borrow.Author.Needs.{needs}

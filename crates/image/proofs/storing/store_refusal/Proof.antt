@@ -1,11 +1,11 @@
 -- `image::storing::store_refusal` meets its contract. Assumes nothing.
-use mathlib.Core.Path.{_≡_, refl, sym, ap, _∙_}
-use Prim.Native.Nat.{ℕ, _+_, _-_, _*_, _%_, _^_, _<_, _≤_}
+use mathlib.Core.Path.{_≡_, sym, _∙_}
+use Prim.Native.Nat.{_-_}
 use native.Mathlib.Omega.{arith}
-use borrow.Author.Tests.{eq-eqb, ne-eqb, not-true, not-false, le-leb, lt-leb}
+use borrow.Author.Tests.{eq-eqb, ne-eqb, not-true, not-false}
 use Rattle.laws.specs.Choice.{pick}
 use Rattle.words.specs.Configs.{lawful}
-use Rattle.image.specs.File.{total, blocksFor, fileSize}
+use Rattle.image.specs.File.{fileSize}
 use Rattle.image.specs.Storing.{storeTests}
 use Rattle.image.proofs.Lawful.{size-of}
 use borrow.Author.Needs.{needs}

@@ -1,6 +1,6 @@
 -- `image_cases::buffers::fill` meets its contract. Assumes nothing.
 use borrow.Author.Needs.{needs}
-use mathlib.Core.Path.{_≡_, refl, sym, ap, _∙_}
+use mathlib.Core.Path.{_≡_}
 use Prim.Native.Nat.{_-_}
 use lib.ListN.{length}
 use Rattle.image_cases.proofs.buffers.fill.Statement.{statement}
