@@ -15,16 +15,16 @@ use Rattle.laws.specs.First.{first-failing, numbered, obeyed}
 use Rattle.laws.specs.Cells.{below-at}
 use Rattle.words.specs.declared.Config.{Config}
 use Rattle.words.specs.Configs.{lawful}
-use Rattle.image.specs.File.{wordAt, wordsAt, total, checksum, blocksFor, fileSize, firstFilling, configOf, imageWord, imageWords}
+use Rattle.image.specs.File.{wordAt, wordsOf, wordsAt, total, checksum, blocksFor, fileSize, firstFilling, configOf, imageWord, imageWords}
 use Rattle.image.specs.Loading.{zeros, blockTests, blocksTests, headTests, restTests, loadOf}
 use Rattle.image.specs.Storing.{bytesOf, filled, blockOf, blocksOf, headOf, fileOf, storeTests, Store, storeOf}
 use Rattle.image.specs.Claims.{Words, loaded, StoreThenLoad, Stores}
-use Rattle.image.proofs.Lists.{values-getD, values-list, below-values, below-append}
+use Rattle.image.proofs.Lists.{length-words, words-getD, words-list, below-words, below-append}
 use Rattle.image.proofs.Lawful.{size, fixed, small}
 use Rattle.image.proofs.Refusals.{part-passes}
 use Rattle.image.proofs.blocks.Laws.{block-right, block-positive}
 use Rattle.image.proofs.loading.Laws.{head-is, rest-is, load-is}
-use Rattle.image.proofs.storing.Laws.{length-bytes, length-filled, length-block, length-blocks}
+use Rattle.image.proofs.storing.Laws.{length-bytes, length-block, length-blocks}
 
 -- a word is its four bytes
 four-bytes : (w : ℕ) → w < 0x100000000 →
@@ -56,42 +56,25 @@ word-back (w ∷ ws) (suc i) h =
     rw (a, b, c, d) (word-back ws i (λ k. h (suc k)))
 
 -- the words of a block
-at-filled : (ws : List ℕ) (i n m : ℕ) → m < n → getD (filled ws i n) m 0 ≡ getD ws (i + m) 0
-unfolding filled
-at-filled ws i n m h = values-getD (λ k. getD ws k 0) i n m h
-
 first-word : (b : ℕ) (ws : List ℕ) (i : ℕ) → getD (blockOf b ws i) 0 0 ≡ b
 unfolding blockOf
 first-word b ws i = refl
 
 last-word : (b : ℕ) (ws : List ℕ) (i : ℕ) → getD (blockOf b ws i) 127 0 ≡ checksum (b ∷ filled ws i 126)
 unfolding blockOf
-last-word b ws i = let n = length-filled ws i 126 in getD-at (b ∷ filled ws i 126) _ [] 0 127 (omega arith)
+last-word b ws i = let n = length-words (λ k. getD ws k 0) i 126 in getD-at (b ∷ filled ws i 126) _ [] 0 127 (omega arith)
 
 first-words : (b : ℕ) (ws : List ℕ) (i k : ℕ) → k < 127 → getD (blockOf b ws i) k 0 ≡ getD (b ∷ filled ws i 126) k 0
 unfolding blockOf
 first-words b ws i k h =
-    let n = length-filled ws i 126 in List·getD-append (b ∷ filled ws i 126) (checksum (b ∷ filled ws i 126) ∷ []) 0 k (omega arith)
+    let n = length-words (λ k. getD ws k 0) i 126 in List·getD-append (b ∷ filled ws i 126) (checksum (b ∷ filled ws i 126) ∷ []) 0 k (omega arith)
 
 inner-word : (b : ℕ) (ws : List ℕ) (i m : ℕ) → m < 126 → getD (blockOf b ws i) (m + 1) 0 ≡ getD ws (i + m) 0
-inner-word b ws i m h = first-words b ws i (m + 1) (omega arith) ∙ rw add-one (at-filled ws i 126 m h)
-
-words-list : (f : List ℕ) (i : ℕ) (l : List ℕ) → ((k : ℕ) → k < length l → wordAt f (i + k) ≡ getD l k 0) → wordsAt f i (length l) ≡ l
-unfolding wordsAt
-words-list f i l e = values-list (wordAt f) i l e
-
-image-list : (f : List ℕ) (i : ℕ) (l : List ℕ) → ((k : ℕ) → k < length l → imageWord f (i + k) ≡ getD l k 0) → imageWords f i (length l) ≡ l
-unfolding imageWords
-image-list f i l e = values-list (imageWord f) i l e
+inner-word b ws i m h = first-words b ws i (m + 1) (omega arith) ∙ rw add-one (words-getD (λ k. getD ws k 0) i 126 m h)
 
 -- words that are zero
-zero-words : (f : List ℕ) (i n : ℕ) → ((k : ℕ) → k < n → wordAt f (i + k) ≡ 0) → Below 1 (wordsAt f i n)
-unfolding wordsAt
-zero-words f i n e = below-values 1 (wordAt f) i n (λ k q. rw (e k q) (omega arith))
-
-zero-image : (f : List ℕ) (i n : ℕ) → ((k : ℕ) → k < n → imageWord f (i + k) ≡ 0) → Below 1 (imageWords f i n)
-unfolding imageWords
-zero-image f i n e = below-values 1 (imageWord f) i n (λ k q. rw (e k q) (omega arith))
+zero-words : (g : ℕ → ℕ) (i n : ℕ) → ((k : ℕ) → k < n → g (i + k) ≡ 0) → Below 1 (wordsOf g i n)
+zero-words g i n e = below-words 1 g i n (λ k q. rw (e k q) (omega arith))
 
 -- blocks that all pass
 all-pass : (f : List ℕ) (b n : ℕ) → ((k : ℕ) → k < n → first-failing (blockTests f (b + k)) ≡ 0) → first-failing (blocksTests f b n) ≡ 0
@@ -107,8 +90,8 @@ module _ (f : List ℕ) (b : ℕ) (ws : List ℕ) (i : ℕ) (at : (j : ℕ) → 
   words-are : wordsAt f (b * 128) 127 ≡ b ∷ filled ws i 126
   words-are =
       let t = b ∷ filled ws i 126 in
-      let n : length t ≡ 127 = ap suc (length-filled ws i 126) in
-      rw n at (words-list f (b * 128) t (λ k q. at k (omega arith) ∙ first-words b ws i k (omega arith)))
+      let n : length t ≡ 127 = ap suc (length-words (λ k. getD ws k 0) i 126) in
+      rw n at (words-list (wordAt f) (b * 128) t (λ k q. at k (omega arith) ∙ first-words b ws i k (omega arith)))
 
   pub block-passes : first-failing (blockTests f b) ≡ 0
   block-passes =
@@ -133,16 +116,12 @@ block-in ws b i (suc n) (suc k) j h q =
     (block-in ws (suc b) (i + 126) n k j (omega arith) q)
 
 -- the words of the file are below 2^32
-small-filled : (ws : List ℕ) (i n : ℕ) → Words ws → Below 0x100000000 (filled ws i n)
-unfolding filled
-small-filled ws i n h = below-values 0x100000000 (λ k. getD ws k 0) i n (λ k q. h (i + k))
-
 small-block : (b : ℕ) (ws : List ℕ) (i : ℕ) → b < 0x100000000 → Words ws → Below 0x100000000 (blockOf b ws i)
 unfolding blockOf checksum
 small-block b ws i q h =
     let t = b ∷ filled ws i 126 in
     let c : (total t + 512) % 2 ^ 32 < 0x100000000 = omega arith in
-    below-append 0x100000000 t (checksum t ∷ []) (q, small-filled ws i 126 h) (c, tt)
+    below-append 0x100000000 t (checksum t ∷ []) (q, below-words 0x100000000 (λ k. getD ws k 0) i 126 (λ k q. h (i + k))) (c, tt)
 
 small-blocks : (ws : List ℕ) (b i n : ℕ) → b + n < 0x100000000 → Words ws → Below 0x100000000 (blocksOf b ws i n)
 unfolding blocksOf
@@ -282,7 +261,7 @@ module _ (c : Config) (image : List ℕ) (l : Holds (lawful c)) (n : length imag
           rw a (head-word (firstFilling - 1 + k) (omega arith) ∙ List·getD-eq-default (headOf c) 0 (omega arith))
 
       filling : Below 1 (wordsAt (fileOf c image) firstFilling (127 - firstFilling))
-      filling = zero-words (fileOf c image) firstFilling (127 - firstFilling) past
+      filling = zero-words (wordAt (fileOf c image)) firstFilling (127 - firstFilling) past
 
   rest-passes : (len : ℕ) → c .imsize ≤ len → first-failing (restTests (fileOf c image) (c .imsize) len) ≡ 0
   unfolding pick
@@ -296,7 +275,7 @@ module _ (c : Config) (image : List ℕ) (l : Holds (lawful c)) (n : length imag
       past k p = image-word (c .imsize + k) (omega arith) ∙ List·getD-eq-default image 0 (omega arith)
 
       filling : Below 1 (imageWords (fileOf c image) (c .imsize) (blocksFor (c .imsize) * 126 - c .imsize))
-      filling = zero-image (fileOf c image) (c .imsize) (blocksFor (c .imsize) * 126 - c .imsize) past
+      filling = zero-words (imageWord (fileOf c image)) (c .imsize) (blocksFor (c .imsize) * 126 - c .imsize) past
 
       blocks : first-failing (blocksTests (fileOf c image) 1 (blocksFor (c .imsize))) ≡ 0
       blocks = all-pass (fileOf c image) 1 (blocksFor (c .imsize)) (λ k p. block-passes (fileOf c image) (1 + k) image (k * 126) (image-block k p))
@@ -305,7 +284,7 @@ module _ (c : Config) (image : List ℕ) (l : Holds (lawful c)) (n : length imag
   unfolding loadOf pick
   loads-back before q =
       let w : imageWords (fileOf c image) 0 (c .imsize) ≡ image =
-      rw n at (image-list (fileOf c image) 0 image (λ k p. rw zero-add (image-word k (omega arith)))) in
+      rw n at (words-list (imageWord (fileOf c image)) 0 image (λ k p. rw zero-add (image-word k (omega arith)))) in
       let v : imageWords (fileOf c image) 0 (wordAt (fileOf c image) 1) ≡ image = rw size-back w in
       let r : first-failing (restTests (fileOf c image) (wordAt (fileOf c image) 1) (length before)) ≡ 0 =
       rw size-back (rest-passes (length before) (omega arith)) in

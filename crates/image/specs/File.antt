@@ -9,9 +9,12 @@ use Rattle.words.specs.declared.Config.{Config}
 unfoldable pub wordAt : List ℕ → ℕ → ℕ
 wordAt f i = getD f (i * 4) 0 + getD f (i * 4 + 1) 0 * 256 + getD f (i * 4 + 2) 0 * 65536 + getD f (i * 4 + 3) 0 * 16777216
 
--- n words from place i on
-unfoldable pub wordsAt : List ℕ → ℕ → ℕ → List ℕ
-wordsAt f i n = values (wordAt f) i n
+-- n words from place i on, where g gives the word at a place
+unfoldable pub wordsOf : (ℕ → ℕ) → ℕ → ℕ → List ℕ
+wordsOf g i n = values g i n
+
+abbrev pub wordsAt : List ℕ → ℕ → ℕ → List ℕ
+wordsAt f i n = wordsOf (wordAt f) i n
 
 unfoldable pub total : List ℕ → ℕ
 total [] = 0
@@ -63,5 +66,5 @@ unfoldable pub imageWord : List ℕ → ℕ → ℕ
 imageWord f i = wordAt f ((1 + i / 126) * 128 + 1 + i % 126)
 
 -- n words of the image from word i on
-unfoldable pub imageWords : List ℕ → ℕ → ℕ → List ℕ
-imageWords f i n = values (imageWord f) i n
+abbrev pub imageWords : List ℕ → ℕ → ℕ → List ℕ
+imageWords f i n = wordsOf (imageWord f) i n

@@ -8,10 +8,9 @@ use lib.Seq.{sets}
 use Rattle.laws.specs.Choice.{pick}
 use Rattle.laws.specs.Test.{Test, same}
 use Rattle.laws.specs.First.{first-failing}
-use Rattle.laws.specs.Table.{values}
 use Rattle.words.specs.declared.Config.{Config}
 use Rattle.words.specs.Configs.{lawful}
-use Rattle.image.specs.File.{total, checksum, blocksFor, fileSize}
+use Rattle.image.specs.File.{wordsOf, total, checksum, blocksFor, fileSize}
 
 -- "little-endian words": the bytes of each word, the lowest first
 unfoldable pub bytesOf : List ℕ → List ℕ
@@ -19,8 +18,8 @@ bytesOf [] = []
 bytesOf (w ∷ ws) = w % 256 ∷ w / 256 % 256 ∷ w / 65536 % 256 ∷ w / 16777216 % 256 ∷ bytesOf ws
 
 -- n of the words ws from word i on, "filled with zeros"
-unfoldable pub filled : List ℕ → ℕ → ℕ → List ℕ
-filled ws i n = values (λ k. getD ws k 0) i n
+abbrev pub filled : List ℕ → ℕ → ℕ → List ℕ
+filled ws i n = wordsOf (λ k. getD ws k 0) i n
 
 -- "number from 0 (word 0); 126 words; check": block b, with the words ws from word i on
 unfoldable pub blockOf : ℕ → List ℕ → ℕ → List ℕ

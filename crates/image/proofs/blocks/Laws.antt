@@ -9,56 +9,41 @@ use native.Mathlib.Omega.{arith}
 use borrow.Author.Tests.{eq-eqb, ne-eqb, lt-ltb, le-ltb}
 use lib.Dec.{T}
 use Rattle.laws.specs.Choice.{pick}
-use Rattle.laws.specs.Table.{values}
 use Rattle.laws.specs.Test.{test}
 use Rattle.laws.specs.First.{first-failing, positive}
-use Rattle.image.specs.File.{wordAt, wordsAt, total, checksum}
+use Rattle.image.specs.File.{wordAt, wordsOf, wordsAt, total, checksum}
 use Rattle.image.specs.Loading.{zeros, blockTests, blocksTests}
-use Rattle.image.proofs.Lists.{values-first, values-at}
+use Rattle.image.proofs.Lists.{words-first, words-at}
 use Rattle.image.proofs.Refusals.{part-fails, part-passes}
 
 -- the sum s so far and what is left give the whole: before the first word, after one more, and after the last
-pub sum-start : (g : ℕ → ℕ) (i n : ℕ) → (512 + total (values g (i + 0) (n - 0))) % 2 ^ 32 ≡ checksum (values g i n)
+pub sum-from : (g : ℕ → ℕ) (i n s : ℕ) → (s + total (wordsOf g (i + 0) (n - 0))) % 2 ^ 32 ≡ (s + total (wordsOf g i n)) % 2 ^ 32
+sum-from g i n s = let e : n - 0 ≡ n = omega arith in rw (add-zero, e)
+
+pub sum-start : (g : ℕ → ℕ) (i n : ℕ) → (512 + total (wordsOf g (i + 0) (n - 0))) % 2 ^ 32 ≡ checksum (wordsOf g i n)
 unfolding checksum
-sum-start g i n = let e : n - 0 ≡ n = omega arith in rw (add-zero, e) (ap (λ (k : ℕ). k % 2 ^ 32) (omega arith))
+sum-start g i n = sum-from g i n 512 ∙ ap (λ (k : ℕ). k % 2 ^ 32) (omega arith)
 
 pub sum-next : (g : ℕ → ℕ) (i k n s : ℕ) → k < n →
-    ((s + g (i + k)) % 2 ^ 32 + total (values g (i + (k + 1)) (n - (k + 1)))) % 2 ^ 32 ≡ (s + total (values g (i + k) (n - k))) % 2 ^ 32
+    ((s + g (i + k)) % 2 ^ 32 + total (wordsOf g (i + (k + 1)) (n - (k + 1)))) % 2 ^ 32 ≡ (s + total (wordsOf g (i + k) (n - k))) % 2 ^ 32
 unfolding total
 sum-next g i k n s h =
-    let t = total (values g (i + (k + 1)) (n - (k + 1))) in
-    rw (values-at g i k n h) (mod-add-mod (s + g (i + k)) (2 ^ 32) t ∙ ap (λ (x : ℕ). x % 2 ^ 32) (omega arith))
+    let t = total (wordsOf g (i + (k + 1)) (n - (k + 1))) in
+    rw (words-at g i k n h) (mod-add-mod (s + g (i + k)) (2 ^ 32) t ∙ ap (λ (x : ℕ). x % 2 ^ 32) (omega arith))
 
-pub sum-end : (g : ℕ → ℕ) (i n s : ℕ) → s < 2 ^ 32 → (s + total (values g (i + n) (n - n))) % 2 ^ 32 ≡ s
-unfolding total
+pub sum-end : (g : ℕ → ℕ) (i n s : ℕ) → s < 2 ^ 32 → (s + total (wordsOf g (i + n) (n - n))) % 2 ^ 32 ≡ s
+unfolding total wordsOf
 sum-end g i n s h = let e : n - n ≡ 0 = omega arith in rw e (omega arith)
-
--- the same of the words of a file
-module _ (f : List ℕ) (i n : ℕ) where
-  pub words-start : (512 + total (wordsAt f (i + 0) (n - 0))) % 2 ^ 32 ≡ checksum (wordsAt f i n)
-  unfolding wordsAt
-  words-start = sum-start (wordAt f) i n
-
-  pub words-next : (k s : ℕ) → k < n →
-      ((s + wordAt f (i + k)) % 2 ^ 32 + total (wordsAt f (i + (k + 1)) (n - (k + 1)))) % 2 ^ 32 ≡ (s + total (wordsAt f (i + k) (n - k))) % 2 ^ 32
-  unfolding wordsAt
-  words-next k s h = sum-next (wordAt f) i k n s h
-
-  pub words-end : (s : ℕ) → s < 2 ^ 32 → (s + total (wordsAt f (i + n) (n - n))) % 2 ^ 32 ≡ s
-  unfolding wordsAt
-  words-end s h = sum-end (wordAt f) i n s h
 
 -- words that are zero: one that is not decides, one that is leaves the rest
 pub not-zero : (f : List ℕ) (i n : ℕ) → 0 < n → (wordAt f i ≡ 0 → ⊥) → false ≡ test (zeros (wordsAt f i n))
-unfolding wordsAt
-not-zero f i n h e = rw (values-first (wordAt f) i n h, le-ltb (wordAt f i) 1 (omega arith))
+not-zero f i n h e = rw (words-first (wordAt f) i n h, le-ltb (wordAt f i) 1 (omega arith))
 
 pub zero-next : (f : List ℕ) (i n : ℕ) → 0 < n → wordAt f i ≡ 0 → test (zeros (wordsAt f (i + 1) (n - 1))) ≡ test (zeros (wordsAt f i n))
-unfolding wordsAt
-zero-next f i n h e = rw (values-first (wordAt f) i n h, lt-ltb (wordAt f i) 1 (omega arith))
+zero-next f i n h e = rw (words-first (wordAt f) i n h, lt-ltb (wordAt f i) 1 (omega arith))
 
 pub zero-none : (f : List ℕ) (i : ℕ) → true ≡ test (zeros (wordsAt f i 0))
-unfolding wordsAt
+unfolding wordsOf
 zero-none f i = refl
 
 -- 20 and 21 of a block

@@ -14,10 +14,10 @@ use Rattle.laws.specs.Test.{test, holds, less, same, _and_}
 use Rattle.laws.specs.First.{first-failing, first-append, positive, numbered, obeyed}
 use Rattle.words.specs.declared.Config.{Config}
 use Rattle.words.specs.Configs.{lawful}
-use Rattle.image.specs.File.{wordAt, wordsAt, blocksFor, fileSize, firstFilling, configOf, imageWord, imageWords}
+use Rattle.image.specs.File.{wordAt, wordsOf, wordsAt, blocksFor, fileSize, firstFilling, configOf, imageWord, imageWords}
 use Rattle.image.specs.Loading.{zeros, blockTests, blocksTests, headTests, restTests, loadNumber, noConfig, loadOf}
 use Rattle.image.proofs.blocks.Laws.{block-positive, blocks-positive}
-use Rattle.image.proofs.Lists.{sets-append, length-values, values-at, values-split, values-same}
+use Rattle.image.proofs.Lists.{sets-append, length-words, words-at, words-split, words-same}
 
 -- copying: what is left after what is done is the whole
 pub copy-start : (f image : List ℕ) (place at n : ℕ) → sets image (at + 0) (wordsAt f (place + 0) (n - 0)) ≡ sets image at (wordsAt f place n)
@@ -26,37 +26,24 @@ copy-start f image place at n = let e : n - 0 ≡ n = omega arith in rw (add-zer
 pub copy-next : (f image : List ℕ) (place at n k : ℕ) → k < n →
     sets (set image (at + k) (wordAt f (place + k))) (at + (k + 1)) (wordsAt f (place + (k + 1)) (n - (k + 1))) ≡
     sets image (at + k) (wordsAt f (place + k) (n - k))
-unfolding wordsAt
 copy-next f image place at n k h =
     let e : at + (k + 1) ≡ suc (at + k) = omega arith in
-    rw (values-at (wordAt f) place k n h, e)
+    rw (words-at (wordAt f) place k n h, e)
 
 pub copy-end : (f image : List ℕ) (place at n : ℕ) → sets image (at + n) (wordsAt f (place + n) (n - n)) ≡ image
-unfolding wordsAt
+unfolding wordsOf
 copy-end f image place at n = let e : n - n ≡ 0 = omega arith in rw e
 
 -- the words of the image in one block lie side by side
 pub in-block : (f : List ℕ) (b i m : ℕ) → i + m ≤ 126 → imageWords f (b * 126 + i) m ≡ wordsAt f (b * 128 + 129 + i) m
-unfolding imageWords imageWord wordsAt
+unfolding imageWord
 in-block f b i m h =
-    values-same (imageWord f) (wordAt f) (b * 126 + i) (b * 128 + 129 + i) m
+    words-same (imageWord f) (wordAt f) (b * 126 + i) (b * 128 + 129 + i) m
     (λ k q. ap (wordAt f) (omega arith))
-
-words-split : (f : List ℕ) (i m n : ℕ) → imageWords f i (m + n) ≡ imageWords f i m ++ imageWords f (i + m) n
-unfolding imageWords
-words-split f i m n = values-split (imageWord f) i m n
-
-length-words : (f : List ℕ) (i n : ℕ) → length (wordsAt f i n) ≡ n
-unfolding wordsAt
-length-words f i n = length-values (wordAt f) i n
-
-image-length : (f : List ℕ) (i n : ℕ) → length (imageWords f i n) ≡ n
-unfolding imageWords
-image-length f i n = length-values (imageWord f) i n
 
 -- where the rest is empty, its place does not matter
 rest-at : (f image : List ℕ) (i j r : ℕ) → (0 < r → i ≡ j) → sets image i (imageWords f i r) ≡ sets image j (imageWords f j r)
-unfolding imageWords
+unfolding wordsOf
 rest-at f image i j zero h = refl
 rest-at f image i j (suc r) h = rw (h (omega arith))
 
@@ -76,7 +63,7 @@ block-next f image b n m p q e = sym (split ∙ rest)
         let z : b * 126 + 0 ≡ b * 126 = omega arith in
         let y : b * 128 + 129 + 0 ≡ b * 128 + 129 = omega arith in
         let w : imageWords f (b * 126) m ≡ wordsAt f (b * 128 + 129) m = rw (z, y) at (in-block f b 0 m (omega arith)) in
-        rw (e, words-split f (b * 126) m r, sets-append, w, length-words)
+        rw (e, words-split (imageWord f) (b * 126) m r, sets-append, w, length-words)
 
     rest : sets (sets image (b * 126) (wordsAt f (b * 128 + 129) m)) (b * 126 + m) (imageWords f (b * 126 + m) r) ≡
         sets (sets image (b * 126) (wordsAt f (b * 128 + 129) m)) ((b + 1) * 126) (imageWords f ((b + 1) * 126) r)
@@ -86,7 +73,7 @@ pub blocks-start : (f image : List ℕ) (n : ℕ) → sets image (0 * 126) (imag
 blocks-start f image n = let e : n - 0 * 126 ≡ n = omega arith in rw e
 
 pub blocks-end : (f image : List ℕ) (i n : ℕ) → n ≤ i → sets image i (imageWords f i (n - i)) ≡ image
-unfolding imageWords
+unfolding wordsOf
 blocks-end f image i n h = let e : n - i ≡ 0 = omega arith in rw e
 
 -- the questions in document 01's order, as the code asks them
@@ -181,7 +168,7 @@ pub load-passed : (f image after : List ℕ) (c : Config) → first-failing (hea
 unfolding loadOf pick
 load-passed f image after c z e d w =
     let n = wordAt f 1 in
-    let m = image-length f 0 n in
+    let m = length-words (imageWord f) 0 n in
     let p : n ≤ length image = rest-passed f n (length image) e .1 in
     let s : sets image 0 (imageWords f 0 n) ≡ imageWords f 0 n ++ drop n image =
     rw (m, zero-add) at (sets-eq (imageWords f 0 n) image 0 (omega arith)) in

@@ -7,12 +7,11 @@ use native.Mathlib.Omega.{arith}
 use lib.ListN.{length, getD, set, length-append, drop-of-length-le}
 use lib.Seq.{sets, sets-eq}
 use Rattle.laws.specs.First.{first-failing, numbered, obeyed}
-use Rattle.image.specs.File.{total, checksum, blocksFor, fileSize}
+use Rattle.image.specs.File.{wordsOf, total, checksum, blocksFor, fileSize}
 use Rattle.image.specs.Storing.{bytesOf, filled, blockOf, blocksOf, headOf, fileOf, storeTests}
 use Rattle.words.specs.declared.Config.{Config}
-use Rattle.image.proofs.Lists.{sets-append, length-values, values-at}
+use Rattle.image.proofs.Lists.{sets-append, length-words, words-at}
 use Rattle.image.proofs.Lawful.{size}
-use Rattle.image.proofs.blocks.Laws.{sum-next, sum-end}
 
 pub bytes-append : (xs ys : List ℕ) → bytesOf (xs ++ ys) ≡ bytesOf xs ++ bytesOf ys
 unfolding bytesOf
@@ -38,41 +37,21 @@ put-four f at a b c d =
     let z : at + 3 ≡ suc (suc (suc at)) = omega arith in
     rw (x, y, z)
 
-pub length-filled : (ws : List ℕ) (i n : ℕ) → length (filled ws i n) ≡ n
-unfolding filled
-length-filled ws i n = length-values (λ k. getD ws k 0) i n
-
 -- words put one by one: what is left after what is done is the whole
-module _ (ws : List ℕ) (place from n : ℕ) where
-  pub put-start : (f : List ℕ) → sets f ((place + 0) * 4) (bytesOf (filled ws (from + 0) (n - 0))) ≡ sets f (place * 4) (bytesOf (filled ws from n))
+module _ (g : ℕ → ℕ) (place from n : ℕ) where
+  pub put-start : (f : List ℕ) → sets f ((place + 0) * 4) (bytesOf (wordsOf g (from + 0) (n - 0))) ≡ sets f (place * 4) (bytesOf (wordsOf g from n))
   put-start f = let e : n - 0 ≡ n = omega arith in rw (add-zero, add-zero, e)
 
   pub put-next : (f : List ℕ) (k : ℕ) → k < n →
-      sets (sets f ((place + k) * 4) (bytesOf (getD ws (from + k) 0 ∷ []))) ((place + (k + 1)) * 4) (bytesOf (filled ws (from + (k + 1)) (n - (k + 1)))) ≡
-      sets f ((place + k) * 4) (bytesOf (filled ws (from + k) (n - k)))
-  unfolding filled
+      sets (sets f ((place + k) * 4) (bytesOf (g (from + k) ∷ []))) ((place + (k + 1)) * 4) (bytesOf (wordsOf g (from + (k + 1)) (n - (k + 1)))) ≡
+      sets f ((place + k) * 4) (bytesOf (wordsOf g (from + k) (n - k)))
   put-next f k h =
-      put-then f ((place + k) * 4) ((place + (k + 1)) * 4) (getD ws (from + k) 0 ∷ []) (filled ws (from + (k + 1)) (n - (k + 1))) (omega arith) ∙
-      rw (values-at (λ i. getD ws i 0) from k n h)
+      put-then f ((place + k) * 4) ((place + (k + 1)) * 4) (g (from + k) ∷ []) (wordsOf g (from + (k + 1)) (n - (k + 1))) (omega arith) ∙
+      rw (words-at g from k n h)
 
-  pub put-end : (f : List ℕ) → sets f ((place + n) * 4) (bytesOf (filled ws (from + n) (n - n))) ≡ f
-  unfolding filled bytesOf
+  pub put-end : (f : List ℕ) → sets f ((place + n) * 4) (bytesOf (wordsOf g (from + n) (n - n))) ≡ f
+  unfolding wordsOf bytesOf
   put-end f = let e : n - n ≡ 0 = omega arith in rw e
-
--- their sum
-module _ (ws : List ℕ) (from n : ℕ) where
-  pub add-start : (s : ℕ) → (s + total (filled ws (from + 0) (n - 0))) % 2 ^ 32 ≡ (s + total (filled ws from n)) % 2 ^ 32
-  add-start s = let e : n - 0 ≡ n = omega arith in rw (add-zero, e)
-
-  pub add-next : (k s : ℕ) → k < n →
-      ((s + getD ws (from + k) 0) % 2 ^ 32 + total (filled ws (from + (k + 1)) (n - (k + 1)))) % 2 ^ 32 ≡
-      (s + total (filled ws (from + k) (n - k))) % 2 ^ 32
-  unfolding filled
-  add-next k s h = sum-next (λ i. getD ws i 0) from k n s h
-
-  pub add-end : (s : ℕ) → s < 2 ^ 32 → (s + total (filled ws (from + n) (n - n))) % 2 ^ 32 ≡ s
-  unfolding filled
-  add-end s h = sum-end (λ i. getD ws i 0) from n s h
 
 -- a block: its number, its words, its checksum
 pub block-put : (f g h after ws : List ℕ) (b from s : ℕ) → g ≡ sets f (b * 128 * 4) (bytesOf (b ∷ [])) →
@@ -82,7 +61,7 @@ unfolding blockOf checksum total
 block-put f g h after ws b from s p q r e =
     let t = filled ws from 126 in
     let one = put-then f (b * 128 * 4) ((b * 128 + 1) * 4) (b ∷ []) t (omega arith) in
-    let n = length-filled ws from 126 in
+    let n = length-words (λ k. getD ws k 0) from 126 in
     let two = put-then f (b * 128 * 4) ((b * 128 + 127) * 4) (b ∷ t) (s ∷ []) (omega arith) in
     let c : s ≡ (b + total t + 512) % 2 ^ 32 = r ∙ mod-add-mod (512 + b) (2 ^ 32) (total t) ∙ ap (λ (x : ℕ). x % 2 ^ 32) (omega arith) in
     let z : b * 128 * 4 ≡ b * 512 = omega arith in
@@ -90,7 +69,7 @@ block-put f g h after ws b from s p q r e =
 
 pub length-block : (b : ℕ) (ws : List ℕ) (i : ℕ) → length (blockOf b ws i) ≡ 128
 unfolding blockOf
-length-block b ws i = let t = b ∷ filled ws i 126 in let n = length-filled ws i 126 in omega (arith, length-append t (checksum t ∷ []))
+length-block b ws i = let t = b ∷ filled ws i 126 in let n = length-words (λ k. getD ws k 0) i 126 in omega (arith, length-append t (checksum t ∷ []))
 
 pub length-blocks : (b : ℕ) (ws : List ℕ) (i n : ℕ) → length (blocksOf b ws i n) ≡ n * 128
 unfolding blocksOf

@@ -7,7 +7,8 @@ use lib.ListN.{length}
 use lib.Seq.{sets, length-sets}
 use Rattle.image.specs.File.{total}
 use Rattle.image.specs.Storing.{bytesOf, filled}
-use Rattle.image.proofs.storing.Laws.{put-start, put-next, put-end, add-start, add-next, add-end}
+use Rattle.image.proofs.storing.Laws.{put-start, put-next, put-end}
+use Rattle.image.proofs.blocks.Laws.{sum-from, sum-next, sum-end}
 use Rattle.image.proofs.storing.put_words.Statement.{statement}
 use Rattle.image.proofs.storing.put_words.Tie as tie
 
@@ -18,13 +19,13 @@ abbrev μ-loop : tie.MeasureT-loop
 μ-loop file₀ place words from n sum s₀ i₀ file s i = n - i
 
 loop-holds : tie.Need-loop-holds Inv-loop μ-loop
-loop-holds c = (omega arith, refl, put-start _ _ _ _ _, omega (arith, c .before .before .fits .sum), add-start _ _ _ _)
+loop-holds c = (omega arith, refl, put-start _ _ _ _ _, omega (arith, c .before .before .fits .sum), sum-from _ _ _ _)
 
 loop-again : tie.Need-loop-again Inv-loop μ-loop
-loop-again c = (omega arith, (ap length (c .before .before .before .put-word .ensures) ∙ simp length-sets (c .before .before .before .before .before .before .before .loop .inv .1)), rw (c .before .before .before .put-word .ensures, c .before .before .before .before .before .word-or-zero .ensures) (put-next _ _ _ _ _ _ (omega arith) ∙ c .before .before .before .before .before .before .before .loop .inv .2), omega (arith, c .wrapping-add-u32 .ensures), rw (c .wrapping-add-u32 .ensures, c .before .before .before .before .before .word-or-zero .ensures) (add-next _ _ _ _ _ (omega arith) ∙ c .before .before .before .before .before .before .before .loop .inv .4))
+loop-again c = (omega arith, (ap length (c .before .before .before .put-word .ensures) ∙ simp length-sets (c .before .before .before .before .before .before .before .loop .inv .1)), rw (c .before .before .before .put-word .ensures, c .before .before .before .before .before .word-or-zero .ensures) (put-next _ _ _ _ _ _ (omega arith) ∙ c .before .before .before .before .before .before .before .loop .inv .2), omega (arith, c .wrapping-add-u32 .ensures), rw (c .wrapping-add-u32 .ensures, c .before .before .before .before .before .word-or-zero .ensures) (sum-next _ _ _ _ _ (omega arith) ∙ c .before .before .before .before .before .before .before .loop .inv .4))
 
 returns : tie.Need-returns Inv-loop μ-loop
-returns c = let e : c .before .loop .i ≡ c .before .before .before .before .args .n = omega arith in record { bytes = sym (put-end _ _ _ _ _) ∙ (rw e at (c .before .loop .inv .2)); added = sym (add-end _ _ _ _ (c .before .loop .inv .3)) ∙ (rw e at (c .before .loop .inv .4)) }
+returns c = let e : c .before .loop .i ≡ c .before .before .before .before .args .n = omega arith in record { bytes = sym (put-end _ _ _ _ _) ∙ (rw e at (c .before .loop .inv .2)); added = sym (sum-end _ _ _ _ (c .before .loop .inv .3)) ∙ (rw e at (c .before .loop .inv .4)) }
 
 pub put-words-spec : {M : Type 1} → statement M
 put-words-spec =
