@@ -3,3 +3,4 @@ pub mod Pieces
 pub mod Printing
 pub mod Listings
 pub mod Whole
+pub mod Held

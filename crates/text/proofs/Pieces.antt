@@ -138,6 +138,15 @@ last-is : (r : Row) (bit : ℕ) → (T (eqb (r .flag) flag) → conditionMark (r
 unfolding lastMark endingOf flagMark
 last-is r bit h = last-by (eqb (r .flag) flag) (eqb bit 0) (conditionMark (r .condition)) h
 
+-- as the code picks it
+pub last-none : (flagged mark bit : ℕ) → eqb flagged 1 && not (eqb bit 0) ≡ true → none ≡ lastMark flagged mark bit
+unfolding lastMark pick
+last-none flagged mark bit e = rw e
+
+pub last-there : (flagged mark bit : ℕ) → eqb flagged 1 && not (eqb bit 0) ≡ false → mark ≡ lastMark flagged mark bit
+unfolding lastMark pick
+last-there flagged mark bit e = rw e
+
 -- with the tables, the pieces of an instruction are its text
 pub form-lent : (c : Config) (i : Instruction) → formText (formLent stringTable sizeTable styleTable i) ≡ textOf c i
 unfolding formText formLent formIn textOf operandText spelled

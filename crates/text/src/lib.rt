@@ -4,11 +4,13 @@ mod columns;
 mod forms;
 mod lines;
 pub mod listing;
+pub mod pages;
 mod tables;
 pub mod texts;
 mod writers;
 
 pub use listing::list;
+pub use pages::Page;
 pub use texts::text;
 
 // What `text` answers: document 01's number, 0 for a pass, and the place after the text; the given place on a refusal.
