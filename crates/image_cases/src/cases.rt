@@ -5,30 +5,6 @@ use crate::input::number;
 use image::Loaded;
 use words::Config;
 
-// The configuration that is stored, and how much of the file and of the slice is lent.
-pub struct Setting {
-    pub config: Config,
-    pub bytes: usize,
-    pub words: usize,
-}
-
-impl Setting {
-    pub fn configured(mut self, c: Config) -> Setting {
-        self.config = c;
-        self
-    }
-
-    pub fn with_bytes(mut self, n: usize) -> Setting {
-        self.bytes = n;
-        self
-    }
-
-    pub fn with_words(mut self, n: usize) -> Setting {
-        self.words = n;
-        self
-    }
-}
-
 // The configuration of 19 numbers in its order.
 fn config_of(n: [u32; 19]) -> Config {
     Config {
@@ -54,19 +30,10 @@ fn config_of(n: [u32; 19]) -> Config {
     }
 }
 
-pub fn config() -> Config {
-    let mut n = [0u32; 19];
+// As many numbers as the list has places.
+pub fn numbers(to: &mut [u32; 19]) {
     for at in 0..19 {
-        n[at] = number();
-    }
-    config_of(n)
-}
-
-pub fn no_setting() -> Setting {
-    Setting {
-        config: config_of([0; 19]),
-        bytes: 0,
-        words: 0,
+        to[at] = number();
     }
 }
 
@@ -137,22 +104,21 @@ fn cut(n: usize, most: usize) -> usize
 }
 
 // A load with the parts that are lent.
-fn load_lent(s: Setting, file: &[u8], image: &mut [u32]) -> Loaded {
-    let bytes = cut(s.bytes, file.len());
-    let words = cut(s.words, image.len());
-    image::load(&file[..bytes], &mut image[..words])
+fn load_lent(bytes: usize, words: usize, file: &[u8], image: &mut [u32]) -> Loaded {
+    let end = cut(bytes, file.len());
+    let size = cut(words, image.len());
+    image::load(&file[..end], &mut image[..size])
 }
 
-fn store_lent(s: Setting, file: &mut [u8], image: &[u32]) -> u32 {
-    let bytes = cut(s.bytes, file.len());
-    let words = cut(s.words, image.len());
-    let c = s.config;
-    image::store(c, &image[..words], &mut file[..bytes])
+fn store_lent(c: Config, bytes: usize, words: usize, file: &mut [u8], image: &[u32]) -> u32 {
+    let end = cut(bytes, file.len());
+    let size = cut(words, image.len());
+    image::store(c, &image[..size], &mut file[..end])
 }
 
-pub fn load_case(s: Setting, file: &[u8; 2048], image: &mut [u32; 512]) {
+pub fn load_case(bytes: usize, words: usize, file: &[u8; 2048], image: &mut [u32; 512]) {
     let before = *image;
-    let r = load_lent(s, file, image);
+    let r = load_lent(bytes, words, file, image);
     put(b"load ", r.number);
     put_config(r.config);
     io::write_all(1, b";");
@@ -160,9 +126,16 @@ pub fn load_case(s: Setting, file: &[u8; 2048], image: &mut [u32; 512]) {
     io::write_all(1, b"\n");
 }
 
-pub fn store_case(s: Setting, file: &mut [u8; 2048], image: &[u32; 512]) {
+pub fn store_case(
+    config: [u32; 19],
+    bytes: usize,
+    words: usize,
+    file: &mut [u8; 2048],
+    image: &[u32; 512],
+) {
+    let c = config_of(config);
     let before = *file;
-    let r = store_lent(s, file, image);
+    let r = store_lent(c, bytes, words, file, image);
     put(b"store ", r);
     io::write_all(1, b":");
     put_file(&before, file);

@@ -12,37 +12,41 @@ mod buffers;
 mod cases;
 mod input;
 
-use cases::Setting;
-
-// One case, and the setting of the next.
-fn case(b: u32, s: Setting, file: &mut [u8; 2048], image: &mut [u32; 512]) -> Setting {
+// One case. `config` holds the configuration's numbers, `lengths` how much of the file and of the slice is lent.
+fn case(
+    b: u32,
+    config: &mut [u32; 19],
+    lengths: &mut [usize; 2],
+    file: &mut [u8; 2048],
+    image: &mut [u32; 512],
+) {
     if b == 35 {
         input::echo_line();
-        return s;
+        return;
     }
     let _ = input::byte();
     if b == 107 {
-        return s.configured(cases::config());
+        cases::numbers(config);
     }
     if b == 102 {
-        return s.with_bytes(buffers::file(file));
+        lengths[0] = buffers::file(file);
     }
     if b == 105 {
-        return s.with_words(buffers::image(image));
+        lengths[1] = buffers::image(image);
     }
     if b == 108 {
-        cases::load_case(s, file, image);
+        cases::load_case(lengths[0], lengths[1], file, image);
     }
     if b == 115 {
-        cases::store_case(s, file, image);
+        cases::store_case(*config, lengths[0], lengths[1], file, image);
     }
-    s
 }
 
 fn main() {
+    let mut config = [0u32; 19];
+    let mut lengths = [0usize; 2];
     let mut file = [0u8; 2048];
     let mut image = [0u32; 512];
-    let mut s = cases::no_setting();
     let mut left: u32 = 100000;
     while 0 < left {
         left -= 1;
@@ -50,6 +54,6 @@ fn main() {
         if b == input::END {
             return;
         }
-        s = case(b, s, &mut file, &mut image);
+        case(b, &mut config, &mut lengths, &mut file, &mut image);
     }
 }

@@ -1,4 +1,4 @@
--- `image_cases::buffers::fill` meets its contract. Assumes nothing.
+-- `image_cases::buffers::fill` is safe and ends: `at` comes nearer to the end at each turn. Assumes nothing.
 use borrow.Author.Needs.{needs}
 use mathlib.Core.Path.{_≡_}
 use Prim.Native.Nat.{_-_}

@@ -1,4 +1,4 @@
--- `image_cases::cases::load_lent` meets its contract. Assumes nothing.
+-- `image_cases::cases::load_lent` is safe and ends: no part is longer than its list. Assumes nothing.
 use mathlib.Core.Path.{sym}
 use lib.Seq.{length-take-le}
 use borrow.Author.Needs.{needs}

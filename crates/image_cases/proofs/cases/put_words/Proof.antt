@@ -1,4 +1,4 @@
--- `image_cases::cases::put_words` meets its contract. Assumes nothing.
+-- `image_cases::cases::put_words` is safe and ends: `at` comes nearer to the end at each turn. Assumes nothing.
 use borrow.Author.Needs.{needs}
 use Prim.Native.Nat.{_-_}
 use Rattle.image_cases.proofs.cases.put_words.Statement.{statement}

@@ -1,4 +1,4 @@
--- `image_cases::cases::store_lent` meets its contract. Assumes nothing.
+-- `image_cases::cases::store_lent` is safe and ends: no part is longer than its list. Assumes nothing.
 use mathlib.Core.Path.{sym}
 use lib.Seq.{length-take-le}
 use borrow.Author.Needs.{needs}
@@ -6,10 +6,10 @@ use Rattle.image_cases.proofs.cases.store_lent.Statement.{statement}
 use Rattle.image_cases.proofs.cases.store_lent.Tie as tie
 
 slice-aggregate-store : tie.Need-slice-aggregate-store
-slice-aggregate-store c = sym (length-take-le _ _ (c .before .before .cut2 .ensures))
+slice-aggregate-store c = sym (length-take-le _ _ (c .before .cut2 .ensures))
 
 slice-aggregate-store-2 : tie.Need-slice-aggregate-store-2
-slice-aggregate-store-2 c = sym (length-take-le _ _ (c .before .before .before .before .cut .ensures))
+slice-aggregate-store-2 c = sym (length-take-le _ _ (c .before .before .before .cut .ensures))
 
 pub store-lent-spec : {M : Type 1} → statement M
 store-lent-spec =
