@@ -2,4 +2,5 @@ pub mod Keys
 pub mod RoundTrip
 pub mod ClassTable
 pub mod Lent
+pub mod Lookup
 pub mod Answering
