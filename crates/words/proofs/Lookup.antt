@@ -4,22 +4,29 @@ use Prim.Native.Nat.{ℕ, _+_, _-_, _*_, _/_, _%_, _^_, _≤_, _<_}
 use mathlib.Core.Path.{_≡_, refl, ap, _∙_, sym}
 use mathlib.Core.Bool.{Bool, true, false, not, _&&_, _||_}
 use mathlib.Core.List.{List, [], _∷_}
+use mathlib.Core.Logic.{_⊎_, inl, inr}
+use native.Mathlib.Nat.{not-suc-le-zero}
 use native.Mathlib.Omega.{arith}
-use lib.Dec.{T, eqb, eqb→eq, not-T}
+use borrow.Author.Tests.{ltb-true, ltb-false, ne-eqb}
+use lib.Dec.{T, ltb, eqb, eqb→eq, T-not, not-T}
+use lib.ListN.{List·getD-eq-default}
 use Rattle.laws.specs.Choice.{pick}
-use Rattle.laws.specs.Test.{Test, less, same, isnt, yes?, if?, _and_, test, Holds, holds, imp}
-use Rattle.laws.specs.First.{first-failing, numbered, obeyed}
+use Rattle.laws.specs.Test.{Test, less, same, isnt, yes?, if?, _and_, _or_, test, Holds, holds, imp, imp-use, eq→eqb, and-left, and-right}
+use Rattle.laws.specs.First.{first-failing, Obeyed, none-fails, numbered, obeyed}
 use Rattle.laws.specs.Table.{every, at-every}
 use Rattle.words.specs.declared.Config.{Config}
 use Rattle.words.specs.declared.Instruction.{Instruction}
-use Rattle.words.specs.Parts.{never, available}
+use Rattle.words.specs.Parts.{unused, flag, byte, target, count, limit, never, available}
 use Rattle.words.specs.Kinds.{marks, marksOf}
 use Rattle.words.specs.Rows.{Row, rows, rowCount, rowAt}
-use Rattle.words.specs.Words.{fieldsIn, spread, fits, refusals567, answered, partsBy, partsOf, readBy, readLawful}
+use Rattle.words.specs.Words.{flagIn, Layout, registers, upper-value, whole, layoutOf, upperIn, lowerIn, valueIn, shiftCount, fieldsIn, spread, fits, refusals567, answered, partsBy, partsOf, readBy, readLawful}
+use Rattle.words.specs.Classes.{classOf, rowOf}
+use Rattle.words.specs.Configs.{lawful}
 use Rattle.words.specs.Facts.{factsOf}
 use Rattle.words.specs.Claims.{understood}
-use Rattle.words.specs.Actions.{actions, input, load, Check, checks, entries}
-use Rattle.words.specs.Lookup.{entryAt, entryOf, actionAt, immediateIn, formOf, entryFacts, checkAt, waitOf}
+use Rattle.words.specs.Actions.{actions, anything, input, load, Check, checks, entries}
+use Rattle.words.specs.Lookup.{entryAt, entryOf, actionAt, immediateIn, formOf, entryFacts, checkAt, limitIn, upperLimit, lowerLimit, waitOf, Quick}
+use Rattle.words.proofs.Keys.{code, widest, most-of, row-facts}
 use Rattle.words.proofs.RoundTrip.{decoded}
 
 -- The facts of a row
@@ -106,3 +113,176 @@ unfolding partsOf partsBy spread fieldsIn entryOf
 read-row c w i e =
     let p = read-as c w i e in
     (p .row, unnamed c _ (p .option), p .parts, ap (λ (j : Instruction). entryAt (j .row)) (p .parts))
+
+-- A word that passes the check of its entry
+
+-- the check's limits are those of the parts that stand in bits 22-16 and 15-0
+abbrev sides-like : Layout → Row → Check → Test
+sides-like registers r k =
+    same (k .upper) (r .destination) and
+    same (k .lower) (r .source) and
+    less (r .destination) anything and
+    less (r .source) anything and
+    same (r .value) unused
+sides-like upper-value r k =
+    same (k .upper) (r .destination) and
+    same (k .lower) (r .value) and
+    less (r .destination) anything and
+    less (r .value) anything and
+    same (r .source) unused
+sides-like whole r k =
+    same (r .destination) unused and same (r .source) unused and same (r .value) target
+
+abbrev check-like : Row → Check → Test
+check-like r k =
+    same (k .code) (code r) and
+    (same (r .flag) unused or same (r .flag) flag) and
+    (same (r .number) unused or same (r .number) byte and same (k .bytes) 1) and
+    sides-like (layoutOf (r .value)) r k
+
+abbrev check-right : ℕ → Test
+check-right n =
+    let r = rowAt n in
+    let k = checkAt (entryAt n % 64) in
+    same (k .option) (r .option) and if? (not (eqb (r .option) never)) (check-like r k)
+
+all-checks : T (every rowCount (λ n. test (check-right n)))
+unfolding pick rows rowAt layoutOf entries entryAt checks checkAt
+all-checks = tt
+
+check-at : (n : ℕ) → n < rowCount → Holds (check-right n)
+check-at n h = holds (check-right n) (at-every rowCount (λ m. test (check-right m)) n all-checks h)
+
+under-pick : (b : Bool) (x y : ℕ) → x < pick b y 0 → T b × (x < y)
+unfolding pick
+under-pick true x y h = (tt, h)
+under-pick false x y h = absurd (not-suc-le-zero h)
+
+above-pick : (b : Bool) (x y : ℕ) → x < pick b 0 y → (T b → ⊥) × (x < y)
+unfolding pick
+above-pick true x y h = absurd (not-suc-le-zero h)
+above-pick false x y h = ((λ t. t), h)
+
+-- each part is in its range
+
+flag-fits : (c : Config) (p k : ℕ) → (p ≡ unused) ⊎ (p ≡ flag) → flagIn p k < limit c p
+unfolding flagIn limit pick
+flag-fits c p k (inl e) = rw e (omega arith)
+flag-fits c p k (inr e) = rw e (omega arith)
+
+number-fits : (c : Config) (p m : ℕ) → m < most-of p → (p ≡ unused) ⊎ (p ≡ byte) × (c .regwidth ≡ 32) → m < limit c p
+unfolding limit most-of widest
+number-fits c p m h (inl e) = rw e (rw e at h)
+number-fits c p m h (inr e) = rw (e .0, e .1) (rw (e .0) at h)
+
+limit-under : (c : Config) (all p m : ℕ) → p < anything → m < limitIn c all p →
+    (T (eqb p count && eqb (c .alulevel) 0) → ⊥) × (m < limit c p)
+unfolding limitIn pick
+limit-under c all p m h q =
+    above-pick (eqb p count && eqb (c .alulevel) 0) m (limit c p) (rw (ne-eqb p anything (λ e. omega arith)) at q)
+
+limit-unused : (c : Config) (p : ℕ) → p ≡ unused → 0 < limit c p
+unfolding limit
+limit-unused c p e = rw e (omega arith)
+
+limit-target : (c : Config) (p : ℕ) → p ≡ target → limit c p ≡ 0x800000
+unfolding limit
+limit-target c p e = rw e
+
+uncounted : (p q : ℕ) (b : Bool) (A : Type 0) → T (not (eqb q count)) → p ≡ q → T (eqb p count && b) → A
+uncounted p q b A z e t = absurd (T-not (eqb q count) z (and-left (eqb q count) b (rw e at t)))
+
+module _
+    (c : Config) (r : Row) (k : Check) (f : ℕ) (same-code : k .code ≡ code r) (most-code : code r ≤ f) (most-low : code r % 65536 ≤ f % 65536)
+    (hf : f < 0x800000) (hu : f / 65536 < k .code / 65536 + limitIn c 128 (k .upper))
+    (hl : f % 65536 < k .code % 65536 + limitIn c 65536 (k .lower)) where
+  sides-fit : (y : Layout) → Holds (sides-like y r k) → Holds (
+      less (upperIn y (f - code r)) (limit c (r .destination)) and
+      less (lowerIn y (f - code r)) (limit c (r .source)) and
+      less (valueIn y (f - code r)) (limit c (r .value)) and
+      shiftCount (c .alulevel) (r .value) (valueIn y (f - code r))
+      )
+  unfolding upperIn lowerIn valueIn
+  sides-fit registers t =
+      let u = rw (t .0, same-code) at hu in
+      let l = rw (t .1 .0, same-code) at hl in (
+        limit-under c 128 (r .destination) ((f - code r) / 65536) (t .1 .1 .0) (omega arith) .1,
+        (
+          limit-under c 65536 (r .source) ((f - code r) % 65536) (t .1 .1 .1 .0) (omega arith) .1,
+          (limit-unused c _ (t .1 .1 .1 .1), uncounted (r .value) unused _ _ tt (t .1 .1 .1 .1)),
+        ),
+      )
+  sides-fit upper-value t =
+      let u = rw (t .0, same-code) at hu in
+      let l = rw (t .1 .0, same-code) at hl in
+      let v = limit-under c 65536 (r .value) ((f - code r) % 65536) (t .1 .1 .1 .0) (omega arith) in (
+        limit-under c 128 (r .destination) ((f - code r) / 65536) (t .1 .1 .0) (omega arith) .1,
+        (limit-unused c _ (t .1 .1 .1 .1), (v .1, λ q. absurd (v .0 q))),
+      )
+  sides-fit whole t = (
+    limit-unused c _ (t .0),
+    (
+      limit-unused c _ (t .1 .0),
+      (omega (arith, limit-target c (r .value) (t .1 .1)), uncounted (r .value) target _ _ tt (t .1 .1)),
+    ),
+  )
+
+past-entries : (n : ℕ) → rowCount ≤ n → entryAt n ≡ 0
+unfolding entryAt entries
+past-entries n h = List·getD-eq-default entries 0 h
+
+-- a row whose check's option is there
+found : (c : Config) (n : ℕ) → T (test (available c (checkAt (entryAt n % 64) .option))) → n < rowCount
+unfolding checkAt checks available
+found c n t = go (ltb n rowCount) refl
+  where
+    go : (b : Bool) → ltb n rowCount ≡ b → n < rowCount
+    go true e = ltb-true n rowCount e
+    go false e = absurd (rw (past-entries n (ltb-false n rowCount e)) at t)
+
+-- a byte number that is not tested stands in a word of 32 bits
+wide-number : (p b width : ℕ) → T (imp (eqb b 1) (eqb width 32)) → (p ≡ unused) ⊎ (p ≡ byte) × (b ≡ 1) → (p ≡ unused) ⊎ (p ≡ byte) × (width ≡ 32)
+wide-number p b width t (inl e) = inl e
+wide-number p b width t (inr e) =
+    inr (e .0, eqb→eq width 32 (imp-use (eqb b 1) (eqb width 32) t (eq→eqb b 1 (e .1))))
+
+-- what passes the check obeys 5, 6 and 7
+obeys : (c : Config) (w : ℕ) → w < 0x100000000 → Quick c w → Obeyed (refusals567 c (rowAt (partsOf w .row)) (partsOf w))
+unfolding partsOf partsBy spread fieldsIn refusals567 fits entryOf upperLimit lowerLimit
+obeys c w hw q =
+    let k = w / 0x800000 in
+    let f = w % 0x800000 in
+    let n = rowOf (classOf k) f in
+    let r = rowAt n in
+    let x = checkAt (entryAt n % 64) in
+    let there = test (available c (x .option)) in
+    let wide = imp (eqb (x .bytes) 1) (eqb (c .regwidth) 32) in
+    let u = under-pick (there && wide) (w / 65536 % 128) (x .code / 65536 + limitIn c 128 (x .upper)) (q .upper) in
+    let row = found c n (and-left there wide (u .0)) in
+    let right = check-at n row in
+    let option = holds (available c (r .option)) (rw (right .0) at (and-left there wide (u .0))) in
+    let like = right .1 (not-T (eqb (r .option) never) (λ t. unnamed c (r .option) option (eqb→eq _ _ t))) in
+    let facts = row-facts k f (omega arith) (omega arith) row in
+    let sides =
+    sides-fit c r x f (like .0) (facts .code-most) (facts .code-low) (omega arith) (omega (arith, u .1)) (omega (arith, q .lower))
+    (layoutOf (r .value)) (like .1 .1 .1) in (
+      row,
+      (
+        option,
+        (
+          (
+            flag-fits c (r .flag) k (like .1 .0),
+            (
+              number-fits c (r .number) _ (facts .number-less)
+                  (wide-number (r .number) (x .bytes) (c .regwidth) (and-right there wide (u .0)) (like .1 .1 .0)),
+              sides,
+            ),
+          ),
+          tt,
+        ),
+      ),
+    )
+
+pub quick : (c : Config) (w : ℕ) → Holds (lawful c) → w < 0x100000000 → Quick c w → readLawful c w ≡ understood (partsOf w)
+unfolding readLawful readBy partsOf answered pick
+quick c w hc hw q = rw (none-fails (refusals567 c (rowAt (partsOf w .row)) (partsOf w)) (obeys c w hw q))
