@@ -8,25 +8,26 @@ use mathlib.Core.Logic.{_⊎_, inl, inr}
 use native.Mathlib.Nat.{not-suc-le-zero}
 use native.Mathlib.Omega.{arith}
 use borrow.Author.Tests.{ltb-true, ltb-false, ne-eqb}
-use lib.Dec.{T, ltb, eqb, eqb→eq, T-not, not-T}
+use lib.Dec.{T, ltb, ltb→lt, eqb, eqb→eq, T-not, not-T}
+use lib.Bits.{bitAnd, and-mask}
 use lib.ListN.{List·getD-eq-default}
-use Rattle.laws.specs.Choice.{pick}
-use Rattle.laws.specs.Test.{Test, less, same, isnt, yes?, if?, _and_, _or_, test, Holds, holds, imp, imp-use, eq→eqb, and-left, and-right}
+use Rattle.laws.specs.Choice.{pick, either}
+use Rattle.laws.specs.Test.{Test, less, same, isnt, yes?, if?, _and_, _or_, test, Holds, holds, Member, imp, imp-use, eq→eqb, and-left, and-right}
 use Rattle.laws.specs.First.{first-failing, Obeyed, none-fails, numbered, obeyed}
 use Rattle.laws.specs.Table.{every, at-every}
 use Rattle.words.specs.declared.Config.{Config}
 use Rattle.words.specs.declared.Instruction.{Instruction}
-use Rattle.words.specs.Parts.{unused, flag, byte, target, count, limit, never, available}
+use Rattle.words.specs.Parts.{unused, flag, byte, register, target, count, limit, never, available}
 use Rattle.words.specs.Kinds.{marks, marksOf}
 use Rattle.words.specs.Rows.{Row, rows, rowCount, rowAt}
 use Rattle.words.specs.Words.{flagIn, Layout, registers, upper-value, whole, layoutOf, upperIn, lowerIn, valueIn, shiftCount, fieldsIn, spread, fits, refusals567, answered, partsBy, partsOf, readBy, readLawful}
-use Rattle.words.specs.Classes.{classOf, rowOf}
-use Rattle.words.specs.Configs.{lawful}
+use Rattle.words.specs.Classes.{index, bytes, port, masks, misc, classOf, fieldOf, codeAt, choices, lookup, rowIn, rowOf}
+use Rattle.words.specs.Configs.{registerSizes, lawful}
 use Rattle.words.specs.Facts.{factsOf}
 use Rattle.words.specs.Claims.{understood}
-use Rattle.words.specs.Actions.{actions, anything, input, load, Check, checks, entries}
-use Rattle.words.specs.Lookup.{entryAt, entryOf, actionAt, immediateIn, formOf, entryFacts, checkAt, limitIn, upperLimit, lowerLimit, waitOf, Quick}
-use Rattle.words.proofs.Keys.{code, widest, most-of, row-facts}
+use Rattle.words.specs.Actions.{flag′, destination′, source′, number′, value′, target′, unit′, actions, anything, input, load, Check, checks, entries}
+use Rattle.words.specs.Lookup.{entryAt, entryOf, actionAt, immediateIn, formOf, entryFacts, checkAt, limitIn, upperLimit, lowerLimit, waitOf, Quick, Agrees}
+use Rattle.words.proofs.Keys.{key, code, widest, most-of, row-facts}
 use Rattle.words.proofs.RoundTrip.{decoded}
 
 -- The facts of a row
@@ -89,19 +90,20 @@ waited c n h o =
 
 -- A word that is read
 
+-- what it means that i is read
 record Read-as (c : Config) (w : ℕ) (i : Instruction) : Type 0 where
-  row : i .row < rowCount
-  option : Holds (available c (rowAt (i .row) .option))
-  fit : Holds (fits c (rowAt (i .row)) i)
   parts : i ≡ partsOf w
+  row : partsOf w .row < rowCount
+  option : Holds (available c (rowAt (partsOf w .row) .option))
+  fit : Holds (fits c (rowAt (partsOf w .row)) (partsOf w))
 
 read-as : (c : Config) (w : ℕ) (i : Instruction) → readLawful c w ≡ understood i → Read-as c w i
 unfolding readLawful readBy partsOf refusals567
 read-as c w i e =
-    let n = first-failing (refusals567 c (rowAt (partsOf w .row)) (partsOf w)) in
-    let p = decoded n (partsOf w) i e in
-    let q = obeyed (refusals567 c (rowAt (partsOf w .row)) (partsOf w)) (numbered (refusals567 c (rowAt (partsOf w .row)) (partsOf w)) tt) (p .0) in
-    rw (← p .1) record { row = q .0; option = q .1 .0; fit = q .1 .1 .0; parts = refl }
+    let tests = refusals567 c (rowAt (partsOf w .row)) (partsOf w) in
+    let p = decoded (first-failing tests) (partsOf w) i e in
+    let q = obeyed tests (numbered tests tt) (p .0) in
+    record { parts = sym (p .1); row = q .0; option = q .1 .0; fit = q .1 .1 .0 }
 
 unnamed : (c : Config) (o : ℕ) → Holds (available c o) → o ≡ never → ⊥
 unfolding available
@@ -110,9 +112,7 @@ unnamed c o h e = rw e at h
 pub read-row : (c : Config) (w : ℕ) (i : Instruction) → readLawful c w ≡ understood i →
     (i .row < rowCount) × (rowAt (i .row) .option ≡ never → ⊥) × (i ≡ partsOf w) × (entryAt (i .row) ≡ entryOf w)
 unfolding partsOf partsBy spread fieldsIn entryOf
-read-row c w i e =
-    let p = read-as c w i e in
-    (p .row, unnamed c _ (p .option), p .parts, ap (λ (j : Instruction). entryAt (j .row)) (p .parts))
+read-row c w i e = let p = read-as c w i e in rw (p .parts) (p .row, unnamed c _ (p .option), refl, refl)
 
 -- A word that passes the check of its entry
 
@@ -286,3 +286,198 @@ obeys c w hw q =
 pub quick : (c : Config) (w : ℕ) → Holds (lawful c) → w < 0x100000000 → Quick c w → readLawful c w ≡ understood (partsOf w)
 unfolding readLawful readBy partsOf answered pick
 quick c w hc hw q = rw (none-fails (refusals567 c (rowAt (partsOf w .row)) (partsOf w)) (obeys c w hw q))
+
+-- The parts that an action reads
+
+-- where a layout's parts come from
+abbrev has-upper : Layout → Bool
+has-upper registers = true
+has-upper upper-value = true
+has-upper whole = false
+
+abbrev has-lower : Layout → Bool
+has-lower registers = true
+has-lower upper-value = false
+has-lower whole = false
+
+abbrev has-value : Layout → Bool
+has-value registers = false
+has-value upper-value = true
+has-value whole = false
+
+abbrev is-whole : Layout → Bool
+is-whole registers = false
+is-whole upper-value = false
+is-whole whole = true
+
+upper-at : (y : Layout) (f : ℕ) → T (has-upper y) → upperIn y f ≡ f / 65536
+unfolding upperIn
+upper-at registers f t = refl
+upper-at upper-value f t = refl
+upper-at whole f t = absurd t
+
+lower-at : (y : Layout) (f : ℕ) → T (has-lower y) → lowerIn y f ≡ f % 65536
+unfolding lowerIn
+lower-at registers f t = refl
+lower-at upper-value f t = absurd t
+lower-at whole f t = absurd t
+
+value-at : (y : Layout) (f : ℕ) → T (has-value y) → valueIn y f ≡ f % 65536
+unfolding valueIn
+value-at registers f t = absurd t
+value-at upper-value f t = refl
+value-at whole f t = absurd t
+
+whole-at : (y : Layout) (f : ℕ) → T (is-whole y) → valueIn y f ≡ f
+unfolding valueIn
+whole-at registers f t = absurd t
+whole-at upper-value f t = absurd t
+whole-at whole f t = refl
+
+-- the row holds what an action of marks u reads, clear of the row's code
+abbrev used : ℕ → ℕ → Bool
+used m u = eqb (u / m % 2) 1
+
+abbrev uses-like : Row → ℕ → Test
+uses-like r u =
+    let y = layoutOf (r .value) in
+    if? (used flag′ u) (same (r .flag) flag) and
+    if? (used destination′ u) (same (r .destination) register and yes? (has-upper y) and less (code r) 65536) and
+    if? (used source′ u) (same (r .source) register and yes? (has-lower y) and same (code r % 256) 0) and
+    if? (used number′ u) (same (r .number) byte and same (key r % 4) 0) and
+    if? (used value′ u) (yes? (has-value y) and same (code r % 65536) 0) and
+    if? (used target′ u) (yes? (is-whole y) and same (code r) 0) and
+    if? (used unit′ u) (yes? (has-upper y) and less (code r) 65536)
+
+abbrev uses-right : ℕ → Test
+uses-right n =
+    if? (not (eqb (rowAt n .option) never)) (uses-like (rowAt n) (actionAt (entryAt n / 0x4000000) .uses))
+
+all-uses : T (every rowCount (λ n. test (uses-right n)))
+unfolding pick rows rowAt layoutOf entries entryAt actions actionAt
+all-uses = tt
+
+uses-at : (n : ℕ) → n < rowCount → (rowAt n .option ≡ never → ⊥) → Holds (uses-like (rowAt n) (actionAt (entryAt n / 0x4000000) .uses))
+uses-at n h o =
+    holds (uses-right n) (at-every rowCount (λ m. test (uses-right m)) n all-uses h)
+    (not-T (eqb (rowAt n .option) never) (λ t. o (eqb→eq _ _ t)))
+
+-- what is below REG_SIZE is its own remainder
+size-mod : (size x d : ℕ) → Member size registerSizes → x % 128 ≡ d % 128 → d < size → d ≡ x % size
+size-mod size x d (inl e) h l = rw e (omega (arith, rw e at l))
+size-mod size x d (inr (inl e)) h l = rw e (omega (arith, rw e at l))
+size-mod size x d (inr (inr (inl e))) h l = rw e (omega (arith, rw e at l))
+size-mod size x d (inr (inr (inr (inl e)))) h l = rw e (omega (arith, rw e at l))
+size-mod size x d (inr (inr (inr (inr e)))) h l = rw e (omega (arith, rw e at l))
+
+-- bits of a word over a code that is clear of them
+low-source : (w b : ℕ) → b ≤ w % 0x800000 → b % 256 ≡ 0 → w % 128 ≡ (w % 0x800000 - b) % 65536 % 128
+low-source w b h z = omega arith
+
+low-value : (w b : ℕ) → b ≤ w % 0x800000 → b % 65536 ≡ 0 → (w % 0x800000 - b) % 65536 ≡ w % 65536
+low-value w b h z = omega arith
+
+flag-at : (p k : ℕ) → p ≡ flag → flagIn p k ≡ k / 8 % 2
+unfolding flagIn pick
+flag-at p k e = rw e
+
+limit-register : (c : Config) (p : ℕ) → p ≡ register → limit c p ≡ c .regsize
+unfolding limit
+limit-register c p e = rw e
+
+most-byte : (p : ℕ) → p ≡ byte → most-of p ≡ 4
+unfolding most-of widest
+most-byte p e = rw e
+
+parts-agree : (c : Config) (w : ℕ) → Holds (lawful c) → w < 0x100000000 → partsOf w .row < rowCount →
+    Holds (available c (rowAt (partsOf w .row) .option)) → Holds (fits c (rowAt (partsOf w .row)) (partsOf w)) →
+    Agrees (c .regsize) (entryOf w / 0x4000000) w (partsOf w)
+unfolding partsOf partsBy spread fieldsIn fits entryOf lawful
+parts-agree c w hc hw row option fit =
+    let k = w / 0x800000 in
+    let f = w % 0x800000 in
+    let n = rowOf (classOf k) f in
+    let r = rowAt n in
+    let y = layoutOf (r .value) in
+    let size = hc .1 .0 .1 in
+    let facts = row-facts k f (omega arith) (omega arith) row in
+    let u = uses-at n row (unnamed c (r .option) option) in
+    record {
+      flag = λ t. flag-at (r .flag) k (u .0 t) ∙ omega arith;
+      destination = λ t.
+          let q = u .1 .0 t in
+          let z = upper-at y (f - code r) (q .1 .0) in
+          let l = limit-register c (r .destination) (q .0) in
+          let d = fit .1 .1 .0 in
+          size-mod (c .regsize) (w / 65536) _ size (omega arith) (omega arith);
+      source = λ t.
+          let q = u .1 .1 .0 t in
+          let z = lower-at y (f - code r) (q .1 .0) in
+          let l = limit-register c (r .source) (q .0) in
+          let d = fit .1 .1 .1 .0 in
+          size-mod (c .regsize) w _ size (rw z (low-source w (code r) (facts .code-most) (q .1 .1))) (omega arith);
+      number = λ t.
+          let q = u .1 .1 .1 .0 t in
+          let m = most-byte (r .number) (q .0) in
+          omega arith;
+      value = λ t.
+          let q = u .1 .1 .1 .1 .0 t in
+          value-at y (f - code r) (q .0) ∙ low-value w (code r) (facts .code-most) (q .1);
+      target = λ t.
+          let q = u .1 .1 .1 .1 .1 .0 t in
+          let z = whole-at y (f - code r) (q .0) in
+          omega arith;
+      unit = λ t.
+          let q = u .1 .1 .1 .1 .1 .1 t in
+          let z = upper-at y (f - code r) (q .0) in
+          omega arith;
+    }
+
+pub agrees : (c : Config) (w : ℕ) (i : Instruction) → Holds (lawful c) → w < 0x100000000 → readLawful c w ≡ understood i →
+    Agrees (c .regsize) (entryOf w / 0x4000000) w i
+agrees c w i hc hw e = let p = read-as c w i e in rw (p .parts) (parts-agree c w hc hw (p .row) (p .option) (p .fit))
+
+-- Numbers of rows, and masks
+
+abbrev rows-below : List (ℕ × ℕ) → Bool
+rows-below [] = true
+rows-below (x ∷ l) = ltb (x .1) 256 && rows-below l
+
+abbrev Few : List (ℕ × ℕ) → Type 0
+Few l = T (rows-below l)
+
+few : (l : List (ℕ × ℕ)) (n : ℕ) → T (rows-below l) → lookup l n < 256
+few [] n t = omega arith
+few (x ∷ l) n t =
+    either (λ m. m < 256) (eqb n (x .0)) (x .1) (lookup l n)
+    (λ _. ltb→lt (x .1) 256 (and-left (ltb (x .1) 256) (rows-below l) t))
+    (λ _. few l n (and-right (ltb (x .1) 256) (rows-below l) t))
+
+choices-few : (c : ℕ) → T (rows-below (choices c))
+unfolding choices
+choices-few c =
+    either Few (eqb c index) _ _ (λ _. tt)
+    (λ _. either Few (eqb c bytes) _ _ (λ _. tt)
+    (λ _. either Few (eqb c port) _ _ (λ _. tt)
+    (λ _. either Few (eqb c masks) _ _ (λ _. tt)
+    (λ _. either Few (eqb c misc) _ _ (λ _. tt) (λ _. tt)))))
+
+pub row-few : (k f : ℕ) → k < 512 → rowOf (classOf k) f < 256
+unfolding rowOf rowIn
+row-few k f h =
+    let c = classOf k in
+    either (λ m. m < 256) (ltb c index) c (lookup (choices c) (codeAt (fieldOf c) f))
+    (λ t. let l = ltb→lt c index t in omega arith)
+    (λ _. few (choices c) _ (choices-few c))
+
+-- REG_SIZE is a power of two
+land-at : (size x : ℕ) → Member size registerSizes → bitAnd x (size - 1) ≡ x % size
+land-at size x (inl e) = rw e (and-mask x 3)
+land-at size x (inr (inl e)) = rw e (and-mask x 4)
+land-at size x (inr (inr (inl e))) = rw e (and-mask x 5)
+land-at size x (inr (inr (inr (inl e)))) = rw e (and-mask x 6)
+land-at size x (inr (inr (inr (inr e)))) = rw e (and-mask x 7)
+
+pub land-size : (c : Config) (x : ℕ) → Holds (lawful c) → bitAnd x (c .regsize - 1) ≡ x % c .regsize
+unfolding lawful
+land-size c x h = land-at (c .regsize) x (h .1 .0 .1)
