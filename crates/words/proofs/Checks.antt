@@ -1,6 +1,6 @@
 -- Computed tests over the rows: an entry says what its row says, its check has the row's limits, and its action reads what the row holds.
 -- Assumes nothing.
-use Prim.Native.Nat.{ℕ, _-_, _/_, _%_, _<_}
+use Prim.Native.Nat.{ℕ, _/_, _%_, _<_}
 use mathlib.Core.Path.{_≡_, refl}
 use mathlib.Core.Bool.{Bool, true, false, not, _&&_}
 use lib.Dec.{T, eqb, eqb→eq, not-T}
@@ -11,7 +11,6 @@ use Rattle.words.specs.Parts.{unused, flag, byte, register, target, neve
 use Rattle.words.specs.Kinds.{marks, marksOf}
 use Rattle.words.specs.Rows.{Row, rows, rowCount, rowAt}
 use Rattle.words.specs.Words.{Layout, registers, upper-value, whole, layoutOf, upperIn, lowerIn, valueIn}
-use Rattle.words.specs.Classes.{bytes}
 use Rattle.words.specs.Facts.{factsOf}
 use Rattle.words.specs.Actions.{flag′, destination′, source′, number′, value′, target′, unit′, actions, anything, input, load, Check, checks, entries}
 use Rattle.words.specs.Lookup.{entryAt, actionAt, immediateIn, formOf, checkAt}

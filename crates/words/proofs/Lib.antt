@@ -1,3 +1,4 @@
+pub mod Digits
 pub mod Keys
 pub mod RoundTrip
 pub mod ClassTable

@@ -17,7 +17,7 @@ use Rattle.laws.specs.First.{first-failing, Obeyed, none-fails, numbered, obeye
 use Rattle.words.specs.declared.Config.{Config}
 use Rattle.words.specs.declared.Instruction.{Instruction}
 use Rattle.words.specs.Parts.{unused, flag, byte, register, target, count, limit, never, available}
-use Rattle.words.specs.Rows.{Row, rows, rowCount, rowAt}
+use Rattle.words.specs.Rows.{Row, rowCount, rowAt}
 use Rattle.words.specs.Words.{flagIn, Layout, registers, upper-value, whole, layoutOf, upperIn, lowerIn, valueIn, shiftCount, fieldsIn, spread, fits, refusals567, answered, partsBy, partsOf, readBy, readLawful}
 use Rattle.words.specs.Classes.{index, bytes, port, masks, misc, classOf, fieldOf, codeAt, choices, lookup, rowIn, rowOf}
 use Rattle.words.specs.Configs.{registerSizes, lawful}
