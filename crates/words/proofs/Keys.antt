@@ -37,17 +37,27 @@ codes bit15 = 2
 codes bit22 = 2
 codes bits22-16 = 128
 
--- key k with code c is the key of its row with bit 26 and number as read, and the code is the row's
+-- what the parts stay below in every lawful configuration, by what they hold
+unfoldable pub widest : List ℕ
+widest = 1 ∷ 2 ∷ 4 ∷ 32 ∷ 128 ∷ 64 ∷ 16 ∷ 65536 ∷ 65536 ∷ 65536 ∷ 0x800000 ∷ 16 ∷ 65536 ∷ 256 ∷ []
+
+unfoldable pub most-of : ℕ → ℕ
+most-of p = getD widest p 0
+
+-- key k with code c is the key of its row with bit 26 and number as read, the number in its range, and the code is the row's
 abbrev key-right : ℕ → Row → ℕ → ℕ → Test
 key-right n r k c =
-    if? (ltb n rowCount) (most (key r + 8 * flagIn (r .flag) k) k and same (code r) (c * unit (fieldOf (classOf k))))
+    if? (ltb n rowCount)
+    (most (key r + 8 * flagIn (r .flag) k) k and
+    less (k - (key r + 8 * flagIn (r .flag) k)) (most-of (r .number)) and
+    same (code r) (c * unit (fieldOf (classOf k))))
 
 abbrev keys-right : ℕ → Bool
 keys-right k =
     every (codes (fieldOf (classOf k))) (λ c. test (key-right (rowIn (classOf k) c) (rowAt (rowIn (classOf k) c)) k c))
 
 all-keys : T (every 512 keys-right)
-unfolding pick rows rowAt classOf fieldOf choices rowIn flagIn
+unfolding pick rows rowAt classOf fieldOf choices rowIn flagIn most-of widest
 all-keys = tt
 
 code-few : (s : Field) (f : ℕ) → f < 0x800000 → codeAt s f < codes s
@@ -66,9 +76,24 @@ code-under bit15 f = omega arith
 code-under bit22 f = omega arith
 code-under bits22-16 f = omega arith
 
+-- in the low 16 bits too
+code-under-low : (s : Field) (f : ℕ) → codeAt s f * unit s % 65536 ≤ f % 65536
+unfolding codeAt
+code-under-low nothing f = omega arith
+code-under-low bits15-8 f = omega arith
+code-under-low bit15 f = omega arith
+code-under-low bit22 f = omega arith
+code-under-low bits22-16 f = omega arith
+
+-- row r stands in key k over bits f
+pub record Stands-in (r : Row) (k f : ℕ) : Type 0 where
+  pub key-most : key r + 8 * flagIn (r .flag) k ≤ k
+  pub number-less : k - (key r + 8 * flagIn (r .flag) k) < most-of (r .number)
+  pub code-most : code r ≤ f
+  pub code-low : code r % 65536 ≤ f % 65536
+
 -- what the test tells of one key and the bits below it
-pub row-facts : (k f : ℕ) → k < 512 → f < 0x800000 → rowOf (classOf k) f < rowCount →
-    (key (rowAt (rowOf (classOf k) f)) + 8 * flagIn (rowAt (rowOf (classOf k) f) .flag) k ≤ k) × (code (rowAt (rowOf (classOf k) f)) ≤ f)
+pub row-facts : (k f : ℕ) → k < 512 → f < 0x800000 → rowOf (classOf k) f < rowCount → Stands-in (rowAt (rowOf (classOf k) f)) k f
 unfolding rowOf
 row-facts k f hk hf hr =
     let s = fieldOf (classOf k) in
@@ -76,7 +101,12 @@ row-facts k f hk hf hr =
     let n = rowIn (classOf k) c in
     let t = at-every (codes s) _ c (at-every 512 keys-right k all-keys hk) (code-few s f hf) in
     let p = holds (key-right n (rowAt n) k c) t (lt→ltb n rowCount hr) in
-    (p .0, omega (arith, p .1, code-under s f))
+    record {
+      key-most = p .0;
+      number-less = p .1 .0;
+      code-most = omega (arith, p .1 .1, code-under s f);
+      code-low = rw (p .1 .1) (code-under-low s f);
+    }
 
 -- the fields of bits 22-0 add up to them
 pub layout-sum : (s : Layout) (f : ℕ) → 65536 * upperIn s f + lowerIn s f + valueIn s f ≡ f
@@ -84,13 +114,6 @@ unfolding upperIn lowerIn valueIn
 layout-sum registers f = omega arith
 layout-sum upper-value f = omega arith
 layout-sum whole f = omega arith
-
--- what the parts stay below in every lawful configuration, by what they hold
-unfoldable pub widest : List ℕ
-widest = 1 ∷ 2 ∷ 4 ∷ 32 ∷ 128 ∷ 64 ∷ 16 ∷ 65536 ∷ 65536 ∷ 65536 ∷ 0x800000 ∷ 16 ∷ 65536 ∷ 256 ∷ []
-
-unfoldable pub most-of : ℕ → ℕ
-most-of p = getD widest p 0
 
 -- parts below Um, Lm and Vm leave the field that chooses the row, at e, as it is
 abbrev field-test : Field → ℕ → ℕ → ℕ → ℕ → Test

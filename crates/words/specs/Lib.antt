@@ -8,4 +8,6 @@ pub mod Words
 pub mod Answers
 pub mod Packed
 pub mod Facts
+pub mod Actions
+pub mod Lookup
 pub mod Claims

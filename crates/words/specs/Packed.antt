@@ -1,12 +1,15 @@
 -- The tables that code holds: the classes, the rows' bases, and the rows' other columns packed into one number each.
-use Prim.Native.Nat.{ℕ, _+_, _*_, _/_, _%_}
+use Prim.Native.Nat.{ℕ, _+_, _*_, _/_, _%_, _^_}
 use mathlib.Core.Path.{_≡_}
 use mathlib.Core.List.{List, [], _∷_}
+use lib.Dec.{eqb}
 use lib.ListN.{getD}
+use Rattle.laws.specs.Choice.{pick}
 use Rattle.laws.specs.Lists.{column}
 use Rattle.laws.specs.Table.{values}
 use Rattle.words.specs.declared.Config.{Config}
 use Rattle.words.specs.Kinds.{marksOf}
+use Rattle.words.specs.Numbers.{CLZ}
 use Rattle.words.specs.Rows.{Row, noRow, rows}
 use Rattle.words.specs.Classes.{none, classOf}
 use Rattle.words.specs.Words.{Read, readBy}
@@ -46,6 +49,10 @@ unpack base p =
 -- what stands for a row past the table's end: noRow, packed
 abbrev pub noPacked : ℕ
 noPacked = 0xa00000
+
+-- the row that digit n of a packed number names, counted from CLZ, the row before BST; 0 names none
+abbrev pub digitRow : ℕ → ℕ → ℕ
+digitRow digits n = let d = digits / 2 ^ (4 * n) % 16 in pick (eqb d 0) none (CLZ + d)
 
 unfoldable pub classTable : List ℕ
 classTable = values classOf 0 512

@@ -4,7 +4,7 @@ ghost use Prim.Native.Nat.{_/_, _%_, _<_};
 ghost use lib.ListN.{getD};
 ghost use Rattle.laws.specs.Choice.{pick as choice};
 ghost use Rattle.words.specs.Classes.{none, lookup, byteRows, indexRows, portRows, maskRows, miscRows, rowOf};
-ghost use Rattle.words.specs.Packed.{noPacked};
+ghost use Rattle.words.specs.Packed.{digitRow, noPacked};
 use crate::numbers;
 
 // The classes whose row another field chooses, and the class of no row (specs/Classes.antt).
@@ -26,42 +26,48 @@ fn pick(b: bool, x: u32, y: u32) -> u32
     if b { x } else { y }
 }
 
+// The row that digit n of `rows` names, counted from CLZ, the row before BST; 0 names none.
+fn digit_row(rows: u64, n: u32) -> u32
+    requires { ⌜ n < 16 ⌝ }
+    ensures { λ r. ⌜ r ≡ digitRow rows n ⌝ }
+{
+    let d = ((rows >> (4 * n)) % 16) as u32;
+    pick(d == 0, NONE, numbers::CLZ + d)
+}
+
+// BST, BLD and BLDS by digit.
+const BYTE_ROWS: u64 = 0x03000210;
+
+// LDYX and MOVX by digit, from code 16 on.
+const INDEX_ROWS: u64 = 0x0006000500040000;
+
 fn byte_row(n: u32) -> u32
     ensures { λ r. ⌜ r ≡ lookup byteRows n ⌝ }
 {
-    pick(
-        n == 0x01,
-        numbers::BST,
-        pick(
-            n == 0x02,
-            numbers::BLD,
-            pick(n == 0x06, numbers::BLDS, NONE),
-        ),
-    )
+    if n < 16 {
+        digit_row(BYTE_ROWS, n)
+    } else {
+        NONE
+    }
 }
 
 fn index_row(n: u32) -> u32
     ensures { λ r. ⌜ r ≡ lookup indexRows n ⌝ }
 {
-    pick(
-        n == 0x14,
-        numbers::LDYX,
-        pick(
-            n == 0x18,
-            numbers::MOVX_TO,
-            pick(n == 0x1c, numbers::MOVX_FROM, byte_row(n)),
-        ),
-    )
+    if n < 16 {
+        return digit_row(BYTE_ROWS, n);
+    }
+    if n < 32 {
+        return digit_row(INDEX_ROWS, n - 16);
+    }
+    NONE
 }
 
-fn port_row(n: u32) -> u32
-    ensures { λ r. ⌜ r ≡ lookup portRows n ⌝ }
+// By bit 15 of f.
+fn port_row(f: u32) -> u32
+    ensures { λ r. ⌜ r ≡ lookup portRows (f / 32768 % 2) ⌝ }
 {
-    pick(
-        n == 0,
-        numbers::MOVIO_READ,
-        pick(n == 1, numbers::IORMW, NONE),
-    )
+    numbers::MOVIO_READ + f / 32768 % 2
 }
 
 fn mask_row(n: u32) -> u32
@@ -74,24 +80,17 @@ fn mask_row(n: u32) -> u32
     )
 }
 
+// The rows from RET on, by byte; 3 names none.
+const MISC_ROWS: u64 = 0x8281807fff7e7d7c;
+
 fn misc_row(n: u32) -> u32
     ensures { λ r. ⌜ r ≡ lookup miscRows n ⌝ }
 {
-    let masks = pick(
-        n == 6,
-        numbers::IRQM_RLD,
-        pick(n == 7, numbers::IRQM_SS, NONE),
-    );
-    let modes = pick(
-        n == 4,
-        numbers::SPR_OFF,
-        pick(n == 5, numbers::SPR_ON, masks),
-    );
-    pick(
-        n == 0,
-        numbers::RET,
-        pick(n == 1, numbers::RETWP, pick(n == 2, numbers::RETI, modes)),
-    )
+    if n < 8 {
+        ((MISC_ROWS >> (8 * n)) % 256) as u32
+    } else {
+        NONE
+    }
 }
 
 // The row of class c, where f is bits 22-0.
@@ -104,17 +103,17 @@ pub fn row_of(c: u32, f: u32) -> u32
     if c == INDEX {
         return index_row(f / 256 % 256);
     }
+    if c == MISC {
+        return misc_row(f / 65536);
+    }
+    if c == PORT {
+        return port_row(f);
+    }
     if c == BYTES {
         return byte_row(f / 256 % 256);
     }
-    if c == PORT {
-        return port_row(f / 32768 % 2);
-    }
     if c == MASKS {
         return mask_row(f / 4194304 % 2);
-    }
-    if c == MISC {
-        return misc_row(f / 65536);
     }
     NONE
 }

@@ -16,7 +16,7 @@ returns-2 c = rw (c .index-row .ensures, c .before .if2 .taken)
 
 returns-3 : tie.Need-returns-3
 unfolding choices fieldOf codeAt rowIn rowOf pick
-returns-3 c = rw (c .byte-row .ensures, c .before .if3 .taken)
+returns-3 c = rw (c .misc-row .ensures, c .before .if3 .taken)
 
 returns-4 : tie.Need-returns-4
 unfolding choices fieldOf codeAt rowIn rowOf pick
@@ -24,11 +24,11 @@ returns-4 c = rw (c .port-row .ensures, c .before .if4 .taken)
 
 returns-5 : tie.Need-returns-5
 unfolding choices fieldOf codeAt rowIn rowOf pick
-returns-5 c = rw (c .mask-row .ensures, c .before .if5 .taken)
+returns-5 c = rw (c .byte-row .ensures, c .before .if5 .taken)
 
 returns-6 : tie.Need-returns-6
 unfolding choices fieldOf codeAt rowIn rowOf pick
-returns-6 c = rw (c .misc-row .ensures, c .before .if6 .taken)
+returns-6 c = rw (c .mask-row .ensures, c .before .if6 .taken)
 
 returns-7 : tie.Need-returns-7
 unfolding choices fieldOf codeAt rowIn rowOf pick

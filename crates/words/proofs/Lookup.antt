@@ -1,0 +1,336 @@
+-- The tables of specs/Lookup.antt agree with Rows, Words and Facts: what the computed tests over the rows (Checks) tell of a row and of a word.
+-- Assumes nothing.
+use Prim.Native.Nat.{ℕ, _+_, _-_, _/_, _%_, _≤_, _<_}
+use mathlib.Core.Path.{_≡_, refl, _∙_, sym}
+use mathlib.Core.Bool.{Bool, true, false, not, _&&_, _||_}
+use mathlib.Core.List.{List, [], _∷_}
+use mathlib.Core.Logic.{_⊎_, inl, inr}
+use native.Mathlib.Nat.{not-suc-le-zero}
+use native.Mathlib.Omega.{arith}
+use borrow.Author.Tests.{ltb-true, ltb-false, ne-eqb}
+use lib.Dec.{T, ltb, ltb→lt, eqb, eqb→eq, T-not, not-T}
+use lib.Bits.{bitAnd, and-mask}
+use lib.ListN.{List·getD-eq-default}
+use Rattle.laws.specs.Choice.{pick, either}
+use Rattle.laws.specs.Test.{less, _and_, test, Holds, holds, Member, imp, imp-use, eq→eqb, and-left, and-right}
+use Rattle.laws.specs.First.{first-failing, Obeyed, none-fails, numbered, obeyed}
+use Rattle.words.specs.declared.Config.{Config}
+use Rattle.words.specs.declared.Instruction.{Instruction}
+use Rattle.words.specs.Parts.{unused, flag, byte, register, target, count, limit, never, available}
+use Rattle.words.specs.Rows.{Row, rowCount, rowAt}
+use Rattle.words.specs.Words.{flagIn, Layout, registers, upper-value, whole, layoutOf, upperIn, lowerIn, valueIn, shiftCount, fieldsIn, spread, fits, refusals567, answered, partsBy, partsOf, readBy, readLawful}
+use Rattle.words.specs.Classes.{index, bytes, port, masks, misc, classOf, fieldOf, codeAt, choices, lookup, rowIn, rowOf}
+use Rattle.words.specs.Configs.{registerSizes, lawful}
+use Rattle.words.specs.Facts.{factsOf}
+use Rattle.words.specs.Claims.{understood}
+use Rattle.words.specs.Actions.{anything, input, load, Check, checks, entries}
+use Rattle.words.specs.Lookup.{entryAt, entryOf, entryFacts, checkAt, limitIn, upperLimit, lowerLimit, waitOf, Quick, Agrees}
+use Rattle.words.proofs.Keys.{code, widest, most-of, row-facts}
+use Rattle.words.proofs.RoundTrip.{decoded}
+use Rattle.words.proofs.Checks.{alike-is, entry-at, sides-like, check-at, upper-at, lower-at, value-at, whole-at, uses-at}
+
+-- The facts of a row
+
+pub entry-facts : (n : ℕ) → n < rowCount → (rowAt n .option ≡ never → ⊥) → entryFacts (entryAt n) ≡ factsOf n
+unfolding factsOf
+entry-facts n h o =
+    let p = entry-at n h o in
+    rw (p .0, p .1 .0, p .1 .1 .0, p .1 .1 .1 .0)
+
+waits-either : (a b p : Bool) → pick {A = ℕ} a 1 (pick (b && p) 1 0) ≡ pick (a || b && p) 1 0
+unfolding pick
+waits-either true b p = refl
+waits-either false b p = refl
+
+pub waited : (c : Config) (n : ℕ) → n < rowCount → (rowAt n .option ≡ never → ⊥) →
+    waitOf c (checkAt (entryAt n % 64)) ≡ pick (factsOf n .input || factsOf n .load && not (eqb (c .dmpipe) 0)) 1 0
+unfolding waitOf
+waited c n h o =
+    let p = entry-at n h o .1 .1 .1 .1 in
+    let k = checkAt (entryAt n % 64) in
+    rw (alike-is (eqb (k .wait) input) (factsOf n .input) (p .0), alike-is (eqb (k .wait) load) (factsOf n .load) (p .1))
+    (waits-either (factsOf n .input) (factsOf n .load) (not (eqb (c .dmpipe) 0)))
+
+-- A word that is read
+
+-- what it means that i is read
+record Read-as (c : Config) (w : ℕ) (i : Instruction) : Type 0 where
+  parts : i ≡ partsOf w
+  row : partsOf w .row < rowCount
+  option : Holds (available c (rowAt (partsOf w .row) .option))
+  fit : Holds (fits c (rowAt (partsOf w .row)) (partsOf w))
+
+read-as : (c : Config) (w : ℕ) (i : Instruction) → readLawful c w ≡ understood i → Read-as c w i
+unfolding readLawful readBy partsOf refusals567
+read-as c w i e =
+    let tests = refusals567 c (rowAt (partsOf w .row)) (partsOf w) in
+    let p = decoded (first-failing tests) (partsOf w) i e in
+    let q = obeyed tests (numbered tests tt) (p .0) in
+    record { parts = sym (p .1); row = q .0; option = q .1 .0; fit = q .1 .1 .0 }
+
+unnamed : (c : Config) (o : ℕ) → Holds (available c o) → o ≡ never → ⊥
+unfolding available
+unnamed c o h e = rw e at h
+
+pub read-row : (c : Config) (w : ℕ) (i : Instruction) → readLawful c w ≡ understood i →
+    (i .row < rowCount) × (rowAt (i .row) .option ≡ never → ⊥) × (i ≡ partsOf w) × (entryAt (i .row) ≡ entryOf w)
+unfolding partsOf partsBy spread fieldsIn entryOf
+read-row c w i e = let p = read-as c w i e in rw (p .parts) (p .row, unnamed c _ (p .option), refl, refl)
+
+-- A word that passes the check of its entry
+
+under-pick : (b : Bool) (x y : ℕ) → x < pick b y 0 → T b × (x < y)
+unfolding pick
+under-pick true x y h = (tt, h)
+under-pick false x y h = absurd (not-suc-le-zero h)
+
+above-pick : (b : Bool) (x y : ℕ) → x < pick b 0 y → (T b → ⊥) × (x < y)
+unfolding pick
+above-pick true x y h = absurd (not-suc-le-zero h)
+above-pick false x y h = ((λ t. t), h)
+
+-- each part is in its range
+
+flag-fits : (c : Config) (p k : ℕ) → (p ≡ unused) ⊎ (p ≡ flag) → flagIn p k < limit c p
+unfolding flagIn limit pick
+flag-fits c p k (inl e) = rw e (omega arith)
+flag-fits c p k (inr e) = rw e (omega arith)
+
+number-fits : (c : Config) (p m : ℕ) → m < most-of p → (p ≡ unused) ⊎ (p ≡ byte) × (c .regwidth ≡ 32) → m < limit c p
+unfolding limit most-of widest
+number-fits c p m h (inl e) = rw e (rw e at h)
+number-fits c p m h (inr e) = rw (e .0, e .1) (rw (e .0) at h)
+
+limit-under : (c : Config) (all p m : ℕ) → p < anything → m < limitIn c all p →
+    (T (eqb p count && eqb (c .alulevel) 0) → ⊥) × (m < limit c p)
+unfolding limitIn pick
+limit-under c all p m h q =
+    above-pick (eqb p count && eqb (c .alulevel) 0) m (limit c p) (rw (ne-eqb p anything (λ e. omega arith)) at q)
+
+limit-unused : (c : Config) (p : ℕ) → p ≡ unused → 0 < limit c p
+unfolding limit
+limit-unused c p e = rw e (omega arith)
+
+limit-target : (c : Config) (p : ℕ) → p ≡ target → limit c p ≡ 0x800000
+unfolding limit
+limit-target c p e = rw e
+
+uncounted : (p q : ℕ) (b : Bool) (A : Type 0) → T (not (eqb q count)) → p ≡ q → T (eqb p count && b) → A
+uncounted p q b A z e t = absurd (T-not (eqb q count) z (and-left (eqb q count) b (rw e at t)))
+
+module _
+    (c : Config) (r : Row) (k : Check) (f : ℕ) (same-code : k .code ≡ code r) (most-code : code r ≤ f) (most-low : code r % 65536 ≤ f % 65536)
+    (hf : f < 0x800000) (hu : f / 65536 < k .code / 65536 + limitIn c 128 (k .upper))
+    (hl : f % 65536 < k .code % 65536 + limitIn c 65536 (k .lower)) where
+  sides-fit : (y : Layout) → Holds (sides-like y r k) → Holds (
+      less (upperIn y (f - code r)) (limit c (r .destination)) and
+      less (lowerIn y (f - code r)) (limit c (r .source)) and
+      less (valueIn y (f - code r)) (limit c (r .value)) and
+      shiftCount (c .alulevel) (r .value) (valueIn y (f - code r))
+      )
+  unfolding upperIn lowerIn valueIn
+  sides-fit registers t =
+      let u = rw (t .0, same-code) at hu in
+      let l = rw (t .1 .0, same-code) at hl in (
+        limit-under c 128 (r .destination) ((f - code r) / 65536) (t .1 .1 .0) (omega arith) .1,
+        (
+          limit-under c 65536 (r .source) ((f - code r) % 65536) (t .1 .1 .1 .0) (omega arith) .1,
+          (limit-unused c _ (t .1 .1 .1 .1), uncounted (r .value) unused _ _ tt (t .1 .1 .1 .1)),
+        ),
+      )
+  sides-fit upper-value t =
+      let u = rw (t .0, same-code) at hu in
+      let l = rw (t .1 .0, same-code) at hl in
+      let v = limit-under c 65536 (r .value) ((f - code r) % 65536) (t .1 .1 .1 .0) (omega arith) in (
+        limit-under c 128 (r .destination) ((f - code r) / 65536) (t .1 .1 .0) (omega arith) .1,
+        (limit-unused c _ (t .1 .1 .1 .1), (v .1, λ q. absurd (v .0 q))),
+      )
+  sides-fit whole t = (
+    limit-unused c _ (t .0),
+    (
+      limit-unused c _ (t .1 .0),
+      (omega (arith, limit-target c (r .value) (t .1 .1)), uncounted (r .value) target _ _ tt (t .1 .1)),
+    ),
+  )
+
+past-entries : (n : ℕ) → rowCount ≤ n → entryAt n ≡ 0
+unfolding entryAt entries
+past-entries n h = List·getD-eq-default entries 0 h
+
+-- a row whose check's option is there
+found : (c : Config) (n : ℕ) → T (test (available c (checkAt (entryAt n % 64) .option))) → n < rowCount
+unfolding checkAt checks available
+found c n t = go (ltb n rowCount) refl
+  where
+    go : (b : Bool) → ltb n rowCount ≡ b → n < rowCount
+    go true e = ltb-true n rowCount e
+    go false e = absurd (rw (past-entries n (ltb-false n rowCount e)) at t)
+
+-- a byte number that is not tested stands in a word of 32 bits
+wide-number : (p b width : ℕ) → T (imp (eqb b 1) (eqb width 32)) → (p ≡ unused) ⊎ (p ≡ byte) × (b ≡ 1) → (p ≡ unused) ⊎ (p ≡ byte) × (width ≡ 32)
+wide-number p b width t (inl e) = inl e
+wide-number p b width t (inr e) =
+    inr (e .0, eqb→eq width 32 (imp-use (eqb b 1) (eqb width 32) t (eq→eqb b 1 (e .1))))
+
+-- what passes the check obeys 5, 6 and 7
+obeys : (c : Config) (w : ℕ) → w < 0x100000000 → Quick c w → Obeyed (refusals567 c (rowAt (partsOf w .row)) (partsOf w))
+unfolding partsOf partsBy spread fieldsIn refusals567 fits entryOf upperLimit lowerLimit
+obeys c w hw q =
+    let k = w / 0x800000 in
+    let f = w % 0x800000 in
+    let n = rowOf (classOf k) f in
+    let r = rowAt n in
+    let x = checkAt (entryAt n % 64) in
+    let there = test (available c (x .option)) in
+    let wide = imp (eqb (x .bytes) 1) (eqb (c .regwidth) 32) in
+    let u = under-pick (there && wide) (w / 65536 % 128) (x .code / 65536 + limitIn c 128 (x .upper)) (q .upper) in
+    let row = found c n (and-left there wide (u .0)) in
+    let right = check-at n row in
+    let option = holds (available c (r .option)) (rw (right .0) at (and-left there wide (u .0))) in
+    let like = right .1 (not-T (eqb (r .option) never) (λ t. unnamed c (r .option) option (eqb→eq _ _ t))) in
+    let facts = row-facts k f (omega arith) (omega arith) row in
+    let sides =
+    sides-fit c r x f (like .0) (facts .code-most) (facts .code-low) (omega arith) (omega (arith, u .1)) (omega (arith, q .lower))
+    (layoutOf (r .value)) (like .1 .1 .1) in (
+      row,
+      (
+        option,
+        (
+          (
+            flag-fits c (r .flag) k (like .1 .0),
+            (
+              number-fits c (r .number) _ (facts .number-less)
+                  (wide-number (r .number) (x .bytes) (c .regwidth) (and-right there wide (u .0)) (like .1 .1 .0)),
+              sides,
+            ),
+          ),
+          tt,
+        ),
+      ),
+    )
+
+pub quick : (c : Config) (w : ℕ) → Holds (lawful c) → w < 0x100000000 → Quick c w → readLawful c w ≡ understood (partsOf w)
+unfolding readLawful readBy partsOf answered pick
+quick c w hc hw q = rw (none-fails (refusals567 c (rowAt (partsOf w .row)) (partsOf w)) (obeys c w hw q))
+
+-- The parts that an action reads
+
+-- what is below REG_SIZE is its own remainder
+size-mod : (size x d : ℕ) → Member size registerSizes → x % 128 ≡ d % 128 → d < size → d ≡ x % size
+size-mod size x d (inl e) h l = rw e (omega (arith, rw e at l))
+size-mod size x d (inr (inl e)) h l = rw e (omega (arith, rw e at l))
+size-mod size x d (inr (inr (inl e))) h l = rw e (omega (arith, rw e at l))
+size-mod size x d (inr (inr (inr (inl e)))) h l = rw e (omega (arith, rw e at l))
+size-mod size x d (inr (inr (inr (inr e)))) h l = rw e (omega (arith, rw e at l))
+
+-- bits of a word over a code that is clear of them
+low-source : (w b : ℕ) → b ≤ w % 0x800000 → b % 256 ≡ 0 → w % 128 ≡ (w % 0x800000 - b) % 65536 % 128
+low-source w b h z = omega arith
+
+low-value : (w b : ℕ) → b ≤ w % 0x800000 → b % 65536 ≡ 0 → (w % 0x800000 - b) % 65536 ≡ w % 65536
+low-value w b h z = omega arith
+
+flag-at : (p k : ℕ) → p ≡ flag → flagIn p k ≡ k / 8 % 2
+unfolding flagIn pick
+flag-at p k e = rw e
+
+limit-register : (c : Config) (p : ℕ) → p ≡ register → limit c p ≡ c .regsize
+unfolding limit
+limit-register c p e = rw e
+
+most-byte : (p : ℕ) → p ≡ byte → most-of p ≡ 4
+unfolding most-of widest
+most-byte p e = rw e
+
+parts-agree : (c : Config) (w : ℕ) → Holds (lawful c) → w < 0x100000000 → partsOf w .row < rowCount →
+    Holds (available c (rowAt (partsOf w .row) .option)) → Holds (fits c (rowAt (partsOf w .row)) (partsOf w)) →
+    Agrees (c .regsize) (entryOf w / 0x4000000) w (partsOf w)
+unfolding partsOf partsBy spread fieldsIn fits entryOf lawful
+parts-agree c w hc hw row option fit =
+    let k = w / 0x800000 in
+    let f = w % 0x800000 in
+    let n = rowOf (classOf k) f in
+    let r = rowAt n in
+    let y = layoutOf (r .value) in
+    let size = hc .1 .0 .1 in
+    let facts = row-facts k f (omega arith) (omega arith) row in
+    let u = uses-at n row (unnamed c (r .option) option) in
+    record {
+      flag = λ t. flag-at (r .flag) k (u .0 t) ∙ omega arith;
+      destination = λ t.
+          let q = u .1 .0 t in
+          let z = upper-at y (f - code r) (q .1 .0) in
+          let l = limit-register c (r .destination) (q .0) in
+          let d = fit .1 .1 .0 in
+          size-mod (c .regsize) (w / 65536) _ size (omega arith) (omega arith);
+      source = λ t.
+          let q = u .1 .1 .0 t in
+          let z = lower-at y (f - code r) (q .1 .0) in
+          let l = limit-register c (r .source) (q .0) in
+          let d = fit .1 .1 .1 .0 in
+          size-mod (c .regsize) w _ size (rw z (low-source w (code r) (facts .code-most) (q .1 .1))) (omega arith);
+      number = λ t.
+          let q = u .1 .1 .1 .0 t in
+          let m = most-byte (r .number) (q .0) in
+          omega arith;
+      value = λ t.
+          let q = u .1 .1 .1 .1 .0 t in
+          value-at y (f - code r) (q .0) ∙ low-value w (code r) (facts .code-most) (q .1);
+      target = λ t.
+          let q = u .1 .1 .1 .1 .1 .0 t in
+          let z = whole-at y (f - code r) (q .0) in
+          omega arith;
+      unit = λ t.
+          let q = u .1 .1 .1 .1 .1 .1 t in
+          let z = upper-at y (f - code r) (q .0) in
+          omega arith;
+    }
+
+pub agrees : (c : Config) (w : ℕ) (i : Instruction) → Holds (lawful c) → w < 0x100000000 → readLawful c w ≡ understood i →
+    Agrees (c .regsize) (entryOf w / 0x4000000) w i
+agrees c w i hc hw e = let p = read-as c w i e in rw (p .parts) (parts-agree c w hc hw (p .row) (p .option) (p .fit))
+
+-- Numbers of rows, and masks
+
+abbrev rows-below : List (ℕ × ℕ) → Bool
+rows-below [] = true
+rows-below (x ∷ l) = ltb (x .1) 256 && rows-below l
+
+abbrev Few : List (ℕ × ℕ) → Type 0
+Few l = T (rows-below l)
+
+few : (l : List (ℕ × ℕ)) (n : ℕ) → T (rows-below l) → lookup l n < 256
+few [] n t = omega arith
+few (x ∷ l) n t =
+    either (λ m. m < 256) (eqb n (x .0)) (x .1) (lookup l n)
+    (λ _. ltb→lt (x .1) 256 (and-left (ltb (x .1) 256) (rows-below l) t))
+    (λ _. few l n (and-right (ltb (x .1) 256) (rows-below l) t))
+
+choices-few : (c : ℕ) → T (rows-below (choices c))
+unfolding choices
+choices-few c =
+    either Few (eqb c index) _ _ (λ _. tt)
+    (λ _. either Few (eqb c bytes) _ _ (λ _. tt)
+    (λ _. either Few (eqb c port) _ _ (λ _. tt)
+    (λ _. either Few (eqb c masks) _ _ (λ _. tt)
+    (λ _. either Few (eqb c misc) _ _ (λ _. tt) (λ _. tt)))))
+
+pub row-few : (k f : ℕ) → k < 512 → rowOf (classOf k) f < 256
+unfolding rowOf rowIn
+row-few k f h =
+    let c = classOf k in
+    either (λ m. m < 256) (ltb c index) c (lookup (choices c) (codeAt (fieldOf c) f))
+    (λ t. let l = ltb→lt c index t in omega arith)
+    (λ _. few (choices c) _ (choices-few c))
+
+-- REG_SIZE is a power of two
+land-at : (size x : ℕ) → Member size registerSizes → bitAnd x (size - 1) ≡ x % size
+land-at size x (inl e) = rw e (and-mask x 3)
+land-at size x (inr (inl e)) = rw e (and-mask x 4)
+land-at size x (inr (inr (inl e))) = rw e (and-mask x 5)
+land-at size x (inr (inr (inr (inl e)))) = rw e (and-mask x 6)
+land-at size x (inr (inr (inr (inr e)))) = rw e (and-mask x 7)
+
+pub land-size : (c : Config) (x : ℕ) → Holds (lawful c) → bitAnd x (c .regsize - 1) ≡ x % c .regsize
+unfolding lawful
+land-size c x h = land-at (c .regsize) x (h .1 .0 .1)

@@ -1,0 +1,15 @@
+-- `words::entries::pick` meets its contract. Assumes nothing.
+use Rattle.laws.specs.Choice.{pick}
+use Rattle.words.proofs.entries.pick.Statement.{statement}
+use Rattle.words.proofs.entries.pick.Tie as tie
+
+returns : tie.Need-returns
+unfolding pick
+returns c = rw (c .if1 .taken)
+
+returns-2 : tie.Need-returns-2
+unfolding pick
+returns-2 c = rw (c .if1 .left)
+
+pub pick-spec : {M : Type 1} → statement M
+pick-spec = tie.close (tie.spec returns returns-2)

@@ -1,0 +1,101 @@
+-- Looking a word up by lent tables: the entry of its row, the limits of the entry's check, and the parts that an action reads. This is how code goes about
+-- a step, not what a reader must believe: proofs/Lookup.antt ties each of these to Rows, Words and Facts.
+use Prim.Native.Nat.{ℕ, _+_, _/_, _%_, _<_}
+use mathlib.Core.Bool.{_&&_, not}
+use mathlib.Core.Path.{_≡_}
+use mathlib.Core.List.{List, [], _∷_}
+use lib.Dec.{T, eqb}
+use lib.ListN.{getD}
+use Rattle.laws.specs.Choice.{pick}
+use Rattle.laws.specs.Test.{test, imp}
+use Rattle.laws.specs.Table.{values}
+use Rattle.words.specs.declared.Config.{Config}
+use Rattle.words.specs.declared.Instruction.{Instruction}
+use Rattle.words.specs.declared.Facts.{Facts}
+use Rattle.words.specs.Parts.{unused, count, never, limit, available}
+use Rattle.words.specs.Kinds.{unsupported, none, no-form, signed, unsigned, shifted, marksOf}
+use Rattle.words.specs.Classes.{classOf, rowOf}
+use Rattle.words.specs.Facts.{facts}
+use Rattle.words.specs.Actions.{by-entry, flag′, destination′, source′, number′, value′, target′, unit′, Action, action, actions, anything, no-wait, input, load, Check, check, checks, entries}
+
+-- Entries
+
+unfoldable pub entryAt : ℕ → ℕ
+entryAt n = getD entries n 0
+
+unfoldable pub entryTable : List ℕ
+entryTable = values entryAt 0 256
+
+-- the entry of word w
+unfoldable pub entryOf : ℕ → ℕ
+entryOf w = entryAt (rowOf (classOf (w / 0x800000)) (w % 0x800000))
+
+unfoldable pub actionAt : ℕ → Action
+actionAt a = getD actions a (action unsupported none no-form 0)
+
+-- the form of the immediate in an entry
+unfoldable pub immediateIn : ℕ → ℕ
+immediateIn e = pick (eqb (e / 4096 % 4) 0) signed (pick (eqb (e / 4096 % 4) 1) unsigned shifted)
+
+unfoldable pub formOf : ℕ → ℕ → ℕ
+formOf a e = pick (eqb (actionAt a .form) by-entry) (immediateIn e) (actionAt a .form)
+
+abbrev pub actionFacts : ℕ → ℕ → Facts
+actionFacts a e =
+    facts (actionAt a .kind) (actionAt a .operation) (formOf a e) (e / 256 % 16) (marksOf (actionAt a .kind))
+
+-- the facts of an entry
+abbrev pub entryFacts : ℕ → Facts
+entryFacts e = actionFacts (e / 0x4000000) e
+
+-- Limits
+
+unfoldable pub checkAt : ℕ → Check
+checkAt t = getD checks t (check 0 unused unused never 0 no-wait)
+
+-- what a part that holds p stays below; `all` is how many values its place has. At level 0 a shift count is left to the exact verdict.
+unfoldable pub limitIn : Config → ℕ → ℕ → ℕ
+limitIn c all p = pick (eqb p anything) all (pick (eqb p count && eqb (c .alulevel) 0) 0 (limit c p))
+
+-- what bits 22-16 of a word stay below by check k: 0, so that no word passes, where its option is off, or a byte number is left to the exact verdict
+unfoldable pub upperLimit : Config → Check → ℕ
+upperLimit c k =
+    pick (test (available c (k .option)) && imp (eqb (k .bytes) 1) (eqb (c .regwidth) 32)) (k .code / 65536 + limitIn c 128 (k .upper)) 0
+
+-- what bits 15-0 stay below
+unfoldable pub lowerLimit : Config → Check → ℕ
+lowerLimit c k = k .code % 65536 + limitIn c 65536 (k .lower)
+
+-- what a step of check k waits beyond two cycles
+unfoldable pub waitOf : Config → Check → ℕ
+waitOf c k = pick (eqb (k .wait) input) 1 (pick (eqb (k .wait) load && not (eqb (c .dmpipe) 0)) 1 0)
+
+unfoldable pub uppers : Config → List ℕ
+uppers c = values (λ t. upperLimit c (checkAt t)) 0 64
+
+unfoldable pub lowers : Config → List ℕ
+lowers c = values (λ t. lowerLimit c (checkAt t)) 0 64
+
+unfoldable pub waits : Config → List ℕ
+waits c = values (λ t. waitOf c (checkAt t)) 0 64
+
+-- word w passes the check of its entry; then it can be read
+pub record Quick (c : Config) (w : ℕ) : Type 0 where
+  pub upper : w / 65536 % 128 < upperLimit c (checkAt (entryOf w % 64))
+  pub lower : w % 65536 < lowerLimit c (checkAt (entryOf w % 64))
+
+-- Parts
+
+-- whether action a reads the part of mark m
+abbrev pub reads : ℕ → ℕ → Type 0
+reads m a = T (eqb (actionAt a .uses / m % 2) 1)
+
+-- instruction i has the parts of word w that action a reads, under REG_SIZE `size`
+pub record Agrees (size a w : ℕ) (i : Instruction) : Type 0 where
+  pub flag : reads flag′ a → i .flag ≡ w / 0x4000000 % 2
+  pub destination : reads destination′ a → i .destination ≡ w / 65536 % size
+  pub source : reads source′ a → i .source ≡ w % size
+  pub number : reads number′ a → i .number ≡ w / 0x800000 % 4
+  pub value : reads value′ a → i .value ≡ w % 65536
+  pub target : reads target′ a → i .value ≡ w % 0x800000
+  pub unit : reads unit′ a → i .destination ≡ w / 65536 % 128

@@ -1,0 +1,264 @@
+// Looking a word up by lent tables: the entry of its row, and the limits and waits of the entry's check (specs/Lookup.antt). A caller that reads many words
+// takes them once.
+ghost use mathlib.Core.Path.{_≡_};
+ghost use Rattle.laws.specs.Choice.{pick as choice};
+ghost use Rattle.words.specs.Classes.{rowOf};
+ghost use Rattle.words.specs.Lookup.{entryTable, uppers, lowers, waits};
+use crate::Config;
+use crate::columns::ENTRIES;
+use crate::rows::row_of;
+
+// The row of class `class`, where f is bits 22-0; a number below 256.
+pub fn row_in(class: u32, f: u32) -> u32
+    ensures { λ r. ⌜ r ≡ rowOf class f ⌝ }
+{
+    row_of(class, f)
+}
+
+// The entry of each row; past the rows none.
+pub fn entry_table() -> [u32; 256]
+    ensures { λ r. ⌜ r ≡ entryTable ⌝ }
+{
+    ENTRIES
+}
+
+fn pick(b: bool, x: u64, y: u64) -> u64
+    ensures { λ r. ⌜ r ≡ choice b x y ⌝ }
+{
+    if b { x } else { y }
+}
+
+// What bits 22-16 of a word stay below, by its check: 0 where the option is off.
+pub fn upper_limits(c: Config) -> [u64; 64]
+    ensures { λ r. ⌜ r ≡ uppers c ⌝ }
+{
+    let size = c.regsize as u64;
+    let mult = pick(c.alumult == 1, size, 0);
+    let level1 = pick(0 < c.alulevel, size, 0);
+    let bytes = pick((1 < c.alulevel) & (c.regwidth == 32), size, 0);
+    let level2 = pick(1 < c.alulevel, size, 0);
+    let index = pick((1 < c.alulevel) & (0 < c.dmsize), size, 0);
+    let loads = pick((1 < c.alulevel) & (0 < c.dmsize), 1, 0);
+    let memory = pick(0 < c.dmsize, size, 0);
+    let ports = pick(c.iopif == 1, size, 0);
+    let modify = pick(c.ioprmw == 1, size, 0);
+    let branch = pick(c.iopif == 1, 128, 0);
+    let unit = pick(c.regsize < c.rmsize, 64, 0);
+    let leave = pick(c.regsize < c.rmsize, 2, 0);
+    let special_off = pick(c.aluspr == 1, 5, 0);
+    let special_on = pick(c.aluspr == 1, 6, 0);
+    [
+        0,
+        size,
+        size,
+        mult,
+        mult,
+        level1,
+        size,
+        bytes,
+        bytes,
+        bytes,
+        level2,
+        index,
+        loads,
+        memory,
+        memory,
+        memory,
+        memory,
+        ports,
+        modify,
+        ports,
+        ports,
+        128,
+        branch,
+        size,
+        ports,
+        unit,
+        1,
+        leave,
+        special_off,
+        special_on,
+        0,
+        0,
+        0,
+        0,
+        0,
+        0,
+        0,
+        0,
+        0,
+        0,
+        0,
+        0,
+        0,
+        0,
+        0,
+        0,
+        0,
+        0,
+        0,
+        0,
+        0,
+        0,
+        0,
+        0,
+        0,
+        0,
+        0,
+        0,
+        0,
+        0,
+        0,
+        0,
+        0,
+        0,
+    ]
+}
+
+// What bits 15-0 stay below, by the check.
+pub fn lower_limits(c: Config) -> [u64; 64]
+    ensures { λ r. ⌜ r ≡ lowers c ⌝ }
+{
+    let size = c.regsize as u64;
+    let data = c.dmsize as u64;
+    let count = pick(c.alulevel == 0, 0, 16);
+    [
+        1,
+        size,
+        65536,
+        size,
+        65536,
+        size,
+        count,
+        0x100 + size,
+        0x200 + size,
+        0x600 + size,
+        0x1400 + size,
+        0x1801,
+        0x1c00 + size,
+        size,
+        data,
+        size,
+        data,
+        size,
+        0x8000 + size,
+        size,
+        65536,
+        65536,
+        65536,
+        1,
+        1,
+        65536,
+        1,
+        1,
+        1,
+        1,
+        1,
+        1,
+        1,
+        1,
+        1,
+        1,
+        1,
+        1,
+        1,
+        1,
+        1,
+        1,
+        1,
+        1,
+        1,
+        1,
+        1,
+        1,
+        1,
+        1,
+        1,
+        1,
+        1,
+        1,
+        1,
+        1,
+        1,
+        1,
+        1,
+        1,
+        1,
+        1,
+        1,
+        1,
+    ]
+}
+
+// What a step waits beyond two cycles, by the check.
+pub fn wait_table(c: Config) -> [u64; 64]
+    ensures { λ r. ⌜ r ≡ waits c ⌝ }
+{
+    let load = pick(!(c.dmpipe == 0), 1, 0);
+    [
+        0,
+        0,
+        0,
+        0,
+        0,
+        0,
+        0,
+        0,
+        0,
+        0,
+        0,
+        0,
+        load,
+        load,
+        load,
+        0,
+        0,
+        1,
+        1,
+        0,
+        0,
+        0,
+        0,
+        0,
+        0,
+        0,
+        0,
+        0,
+        0,
+        0,
+        0,
+        0,
+        0,
+        0,
+        0,
+        0,
+        0,
+        0,
+        0,
+        0,
+        0,
+        0,
+        0,
+        0,
+        0,
+        0,
+        0,
+        0,
+        0,
+        0,
+        0,
+        0,
+        0,
+        0,
+        0,
+        0,
+        0,
+        0,
+        0,
+        0,
+        0,
+        0,
+        0,
+        0,
+    ]
+}
