@@ -5,9 +5,9 @@ use mathlib.Core.Path.{_≡_, refl, sym, ap, _∙_}
 use mathlib.Core.Bool.{Bool, true, false}
 use mathlib.Core.List.{List, [], _∷_, _++_, append-nil}
 use native.Mathlib.Omega.{arith}
-use borrow.Author.Tests.{lt-ltb, le-ltb, eq-eqb, ne-eqb, eqb-false}
+use borrow.Author.Tests.{lt-ltb, le-ltb, eq-eqb, ne-eqb, eqb-true, eqb-false}
 use lib.Dec.{T, ltb, eqb, ltb→lt}
-use lib.ListN.{getD}
+use lib.ListN.{length, getD}
 use Rattle.laws.specs.Choice.{pick}
 use Rattle.laws.specs.Test.{Test, test, and-left, and-right, Below}
 use Rattle.laws.specs.First.{first-failing, positive}
@@ -27,14 +27,16 @@ use Rattle.words.specs.Facts.{facts, factsOf, factsIn}
 use Rattle.words.proofs.RoundTrip.{decoded}
 use Rattle.state.specs.declared.Core.{Core}
 use Rattle.state.specs.declared.Change.{Change}
-use Rattle.state.specs.State.{Env, State}
+use Rattle.state.specs.State.{Env, State, stackLimit}
 use Rattle.state.specs.Cores.{stopped, moved, next}
 use Rattle.state.specs.Operands.{View, viewOf}
 use Rattle.state.specs.Plans.{contextOf, comparePlan, computePlan, multiplyPlan, loadIndexPlan, indexStorePlan, indexLoadPlan, movePlan, constantPlan, loadRegisterPlan, loadDirectPlan, storeRegisterPlan, storeDirectPlan, portReadPlan, portWritePlan, portModifyPlan, jumpPlan, branchPlan, jumpRegisterPlan, branchRegisterPlan, callPlan, callRegisterPlan, returnPlan, returnConstantPlan, enterBankPlan, leaveBankPlan, enterSpecialPlan, leaveSpecialPlan, plans, planOf}
 use Rattle.state.specs.Stops.{stop8, stops9to15, partsAt, factsAt, stops}
 use Rattle.state.specs.Step.{number, applied, planAt, cyclesOf, Outcome, refused, advanceOf}
 use Rattle.state.proofs.Good.{Good, Bounds, bounds}
-use Rattle.machine.specs.Act.{unless, act, changeAt, Small}
+use Rattle.state.proofs.Apply.{Landing}
+use Rattle.state.proofs.StaysValid.{lands}
+use Rattle.machine.specs.Act.{unless, act, changeAt, Small, Fit}
 
 -- a stop, or what the rest of the list decides
 pub unless-first : (xs ys : List (ℕ × Test)) (m : Core) (x : Change) → T (positive xs) →
@@ -63,55 +65,10 @@ not-zero Unavailable e = omega arith
 not-zero OutOfRange e = omega arith
 
 module _ (e : Env) (s : State) where
-  abbrev word : ℕ
-  word = getD (e .image) (s .core .pc) 0
-
-  abbrev verdict : ℕ
-  verdict = first-failing (refusals567 (e .config) (rowAt (partsAt e s .row)) (partsAt e s))
-
   -- 4
   pub outside : e .config .imsize ≤ s .core .pc → stopped (s .core) 4 ≡ changeAt e s
   unfolding changeAt stops pick
   outside h = rw (le-ltb _ _ h)
-
-  -- what comes after 4, 5, 6 and 7
-  abbrev later : Change
-  later = pick (test (stop8 (s .core .mode) (partsAt e s .source) (factsAt e s))) (act (viewOf e s) (partsAt e s) (factsAt e s)) (stopped (s .core) 8)
-
-  inside : s .core .pc < e .config .imsize → changeAt e s ≡ pick (eqb verdict 0) later (stopped (s .core) verdict)
-  unfolding changeAt stops refusals567 act planAt pick
-  inside h =
-      rw (lt-ltb _ _ h)
-      (unless-first (refusals567 (e .config) (rowAt (partsAt e s .row)) (partsAt e s))
-      ((8, stop8 (s .core .mode) (partsAt e s .source) (factsAt e s)) ∷ stops9to15 (viewOf e s) (partsAt e s) (factsAt e s))
-      (s .core)
-      (planAt e s)
-      tt)
-
-  -- 5, 6, 7
-  read-number : (x : Refusal) → readingOf (Refused x) ≡ readLawful (e .config) word → refusalNumber x ≡ verdict
-  unfolding readingOf readLawful readBy partsOf answered
-  read-number x q = ap (λ r. r .number) q
-
-  pub unreadable : s .core .pc < e .config .imsize → (x : Refusal) → readingOf (Refused x) ≡ readLawful (e .config) word →
-      stopped (s .core) (refusalNumber x) ≡ changeAt e s
-  unfolding pick
-  unreadable h x q =
-      let n = read-number x q in
-      rw n (sym (inside h ∙ rw (ne-eqb verdict 0 (λ z. not-zero x (n ∙ z)))))
-
-  -- what was read is the instruction at PC
-  pub read-parts : (j : Instruction) → readingOf (Decoded j) ≡ readLawful (e .config) word → (verdict ≡ 0) × (partsAt e s ≡ j)
-  unfolding readingOf readLawful readBy partsOf
-  read-parts j q = decoded _ _ _ (sym q)
-
-  pub readable : s .core .pc < e .config .imsize → (j : Instruction) → readingOf (Decoded j) ≡ readLawful (e .config) word →
-      changeAt e s ≡
-      pick (test (stop8 (s .core .mode) (j .source) (factsOf (j .row)))) (act (viewOf e s) j (factsOf (j .row))) (stopped (s .core) 8)
-  unfolding pick
-  readable h j q =
-      let p = read-parts j q in
-      inside h ∙ rw (p .0, p .1)
 
   -- the change is the plan's or a stop's
   changed : changeAt e s ≡ pick (eqb (number e s) 0) (planAt e s) (stopped (s .core) (number e s))
@@ -163,18 +120,27 @@ module _ (e : Env) (s : State) where
           let z : x .stop ≡ number e s = ap (λ (y : Change). y .stop) (p ∙ changed-stop r) in
           absurd (eqb-false (number e s) 0 r (sym z ∙ h))
 
-  -- the code's sums are small
-  pub ready : Good e s → s .core .pc < e .config .imsize → Small (s .core) × (contextOf (s .core) < 4294967296)
-  unfolding contextOf
-  ready g h =
-      let b = bounds (e .config) (g .lawful) in
-      let m = g .core in (
-        record { pc = m .pc; wp = omega arith; rx = omega arith; depth = omega arith },
-        omega arith,
-      )
+  -- what is carried out falls on cells that are there
+  pub landing-here : (x : Change) → Good e s → length (s .stack) ≡ 63 → x ≡ changeAt e s → x .stop ≡ 0 →
+      Landing (length (s .registers)) (length (s .memory)) (length (s .addresses)) x × (length (s .stack) ≡ 63) × (length (s .values) ≡ length (s .addresses))
+  landing-here x g l p h = (rw (g .registers, g .memory) (go (eqb (number e s) 0) refl), l, sym (g .log))
+    where
+      go : (b : Bool) → eqb (number e s) 0 ≡ b → Landing (e .config .rmsize) (e .config .dmsize) (length (s .addresses)) x
+      go true r = rw (p ∙ changed-plan r) (lands e s g (eqb-true (number e s) 0 r))
+      go false r =
+          let z : x .stop ≡ number e s = ap (λ (y : Change). y .stop) (p ∙ changed-stop r) in
+          absurd (eqb-false (number e s) 0 r (sym z ∙ h))
 
-pub facts-made : (p n k o f c : ℕ) → factsIn p ≡ factsOf n → k ≡ factsIn p .kind → o ≡ factsIn p .operation → f ≡ factsIn p .form →
-    c ≡ factsIn p .condition → facts k o f c (marksOf k) ≡ factsOf n
-unfolding factsOf
-facts-made p n k o f c h a b d e =
-    rw (a ∙ ap (λ (x : Facts). x .kind) h, b ∙ ap (λ (x : Facts). x .operation) h, d ∙ ap (λ (x : Facts). x .form) h, e ∙ ap (λ (x : Facts). x .condition) h)
+  -- the code's sums are small, and its registers are there
+  pub ready : (limit : ℕ) → Good e s → limit ≡ stackLimit (e .config .pcstack) → s .core .pc < e .config .imsize →
+      Fit (e .config) (s .core) (length (s .registers)) × (contextOf (s .core) < 4294967296) × (length (s .memory) ≡ e .config .dmsize) ×
+      (limit ≡ stackLimit (e .config .pcstack))
+  unfolding contextOf
+  ready limit g q h =
+      let b = bounds (e .config) (g .lawful) in
+      let m = g .core in
+      let small : Small (s .core) = record { pc = m .pc; wp = omega arith; rx = omega arith; depth = omega arith } in
+      let fit : Fit (e .config) (s .core) (length (s .registers)) =
+      record { lawful = g .lawful; small = small; bank = omega (arith, m .bank .inside, g .registers); index = m .indices .x } in
+      let context : contextOf (s .core) < 4294967296 = omega arith in
+      (fit, context, g .memory, q)

@@ -1,7 +1,7 @@
 pub mod Operands
 pub mod Acting
 pub mod Deciding
-pub mod Decided
+pub mod Looking
 pub mod Cellwise
 pub mod Going
 pub mod Kept

@@ -9,10 +9,8 @@ use lib.Dec.{eqb}
 use lib.ListN.{length, getD, List·getD-eq-default}
 use Rattle.laws.specs.Lists.{getD-inside}
 use Rattle.words.specs.declared.Config.{Config}
-use Rattle.arith.specs.declared.Operation.the-variants.{And}
-use Rattle.arith.specs.declared.Form.the-variants.{Signed, Unsigned, Shifted}
 use Rattle.state.specs.State.{top}
-use Rattle.state.specs.Operands.{constant, operand, operations, operationOf, conditionMet, log2, specialRegister}
+use Rattle.state.specs.Operands.{conditionMet, log2, specialRegister}
 
 -- one number further
 pub above : (m k : ℕ) → m ≤ k → (k ≡ m → ⊥) → m + 1 ≤ k
@@ -27,17 +25,6 @@ no-condition k n z h =
     false
     h
     )
-
-pub no-operand : (c : Config) (k s v : ℕ) → 7 ≤ k → 0 ≡ operand c k s v
-unfolding operand
-no-operand c k s v h =
-    sym (
-    List·getD-eq-default (s ∷ s ∷ constant c Signed v ∷ constant c Unsigned v ∷ constant c Shifted v ∷ 0 ∷ v ∷ []) 0 h
-    )
-
-pub no-operation : (o k : ℕ) → 24 ≤ o → And ≡ operationOf o k
-unfolding operationOf operations
-no-operation o k h = sym (List·getD-eq-default (operations k) And h)
 
 pub special-inside : (c : Config) (spr7 k a b d e : ℕ) → a ≡ 4096 * c .alumult + 1024 * c .alulevel + c .yamclk →
     b ≡ 256 * c .regwidth + 16 * log2 (c .rmsize) + log2 (c .regsize) → d ≡ log2 (c .dmsize) → e ≡ c .yamsreg3 → k < 4 →

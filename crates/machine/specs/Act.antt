@@ -1,23 +1,31 @@
 -- How the code goes about a step: the change that the instruction makes, or the stop. The laws of proofs/ tie it to state's definitions.
-use Prim.Native.Nat.{ℕ, _+_, _*_, _<_, _≤_}
+use Prim.Native.Nat.{ℕ, _+_, _*_, _/_, _%_, _<_, _≤_}
 use mathlib.Core.Bool.{Bool}
-use mathlib.Core.List.{List, [], _∷_}
+use mathlib.Core.Path.{_≡_}
+use mathlib.Core.List.{List, [], _∷_, _++_}
 use lib.Dec.{ltb, eqb}
 use lib.ListN.{length}
 use Rattle.laws.specs.Choice.{pick}
-use Rattle.laws.specs.Test.{Test, test}
+use Rattle.laws.specs.First.{first-failing}
+use Rattle.laws.specs.Test.{Test, test, Holds}
 use Rattle.words.specs.declared.Config.{Config}
+use Rattle.words.specs.Configs.{lawful}
 use Rattle.words.specs.declared.Instruction.{Instruction}
 use Rattle.words.specs.declared.Facts.{Facts}
 use Rattle.state.specs.declared.Core.{Core}
 use Rattle.state.specs.declared.Change.{Change}
 use Rattle.state.specs.State.{Env, State, stackLimit}
 use Rattle.words.specs.Kinds.{compute, shift, transform, bytewise}
+use Rattle.words.specs.Rows.{rowAt}
+use Rattle.words.specs.Words.{partsOf, refusals567}
+use Rattle.words.specs.Facts.{factsOf}
+use Rattle.words.specs.Packed.{Tables}
+use Rattle.words.specs.Lookup.{entryTable, uppers, lowers, waits, entryFacts, Agrees}
 use Rattle.arith.specs.declared.Operation.{Operation}
 use Rattle.state.specs.Cores.{next, flagged, stopped, moved, toRegister}
 use Rattle.state.specs.Operands.{View, specialRegister}
 use Rattle.state.specs.Plans.{alu, planOf}
-use Rattle.state.specs.Stops.{stops, stops9to15}
+use Rattle.state.specs.Stops.{stop8, stops, stops9to15}
 use Rattle.state.specs.Step.{planAt}
 
 -- x, where no test of the list fails, else the stop of the first that does
@@ -55,3 +63,39 @@ pub record Small (m : Core) : Type 0 where
   pub wp : m .wp ≤ 1024
   pub rx : m .rx ≤ 1024
   pub depth : m .depth ≤ 64
+
+-- what it asks of the configuration and the registers, `cells` of them, so that every register of the active bank is one of them
+pub record Fit (c : Config) (m : Core) (cells : ℕ) : Type 0 where
+  pub lawful : Holds (lawful c)
+  pub small : Small m
+  pub bank : m .wp + c .regsize ≤ cells
+  pub index : m .rx < c .regsize
+
+-- the cells of the registers that bits 22-16 and 6-0 of a word name, each number taken mod REG_SIZE, and bit 26
+
+abbrev pub upperCell : Config → Core → ℕ → ℕ
+upperCell c m w = m .wp + w / 65536 % c .regsize
+
+abbrev pub lowerCell : Config → Core → ℕ → ℕ
+lowerCell c m w = m .wp + w % c .regsize
+
+abbrev pub bit26 : ℕ → ℕ
+bit26 w = w / 0x4000000 % 2
+
+-- the numbers 5 to 8 of word w, in their order
+unfoldable pub verdictOf : Config → ℕ → ℕ → ℕ
+verdictOf c mode w =
+    let i = partsOf w in
+    first-failing (refusals567 c (rowAt (i .row)) i ++ ((8, stop8 mode (i .source) (factsOf (i .row))) ∷ []))
+
+-- r is what word w does, whose row's entry is e, for any instruction that has the parts of w that its action reads
+pub record Acts (v : View) (e w : ℕ) (r : Change) : Type 0 where
+  pub acts : (i : Instruction) → Agrees (v .config .regsize) (e / 0x4000000) w i → r ≡ act v i (entryFacts e)
+
+-- the tables that are lent are those of words, and the limits and waits those of the configuration
+pub record Lent (c : Config) (classes bases packs entries upper lower wait : List ℕ) : Type 0 where
+  pub tables : Tables classes bases packs
+  pub entries-right : entries ≡ entryTable
+  pub uppers-right : upper ≡ uppers c
+  pub lowers-right : lower ≡ lowers c
+  pub waits-right : wait ≡ waits c

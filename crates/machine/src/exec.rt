@@ -1,22 +1,38 @@
-// What an instruction does, by its kind.
+// What an instruction does, by its action (words' specs/Actions.antt): one choice for kind, operation and form.
 ghost use mathlib.Core.Path.{_≡_};
-ghost use Prim.Native.Nat.{_<_};
-ghost use Rattle.words.specs.Kinds.{marksOf};
-ghost use Rattle.words.specs.Facts.{facts};
-ghost use Rattle.state.specs.Cores.{next, moved};
+ghost use Prim.Native.Nat.{_+_, _%_, _≤_, _<_};
+ghost use lib.ListN.{getD, length};
+ghost use Rattle.laws.specs.Test.{Holds};
+ghost use Rattle.words.specs.Configs.{lawful};
+ghost use Rattle.state.specs.State.{stackLimit};
 ghost use Rattle.state.specs.Operands.{view};
 ghost use Rattle.state.specs.Plans.{contextOf};
-ghost use Rattle.machine.specs.Act.{Small, movedValue, act};
+ghost use Rattle.machine.specs.Act.{movedValue, Fit, Acts};
 use crate::plans;
-use crate::values::operand_of;
-use crate::values::operation_of;
-use crate::values::register_at;
+use crate::values::cell;
+use crate::values::immediate_in;
 use crate::values::special_register;
 use crate::values::value_at;
+use arith::Operation;
 use state::Change;
 use state::Core;
 use words::Config;
-use words::Instruction;
+
+// The cell of register r, taken modulo REG_SIZE, in the bank at wp.
+fn place(c: Config, wp: usize, r: u32) -> usize
+    requires { ⌜ Holds (lawful c) × (wp ≤ 1024) ⌝ }
+    ensures { λ x. ⌜ x ≡ wp + r % c .regsize ⌝ }
+{
+    wp + ((r & (c.regsize - 1)) as usize)
+}
+
+// The value of that register.
+fn register(c: Config, m: Core, registers: &[u32], r: u32) -> u32
+    requires { ⌜ Fit c m (length (now registers)) ⌝ }
+    ensures { λ x. ⌜ x ≡ getD (now (registers .entry)) (m .wp + r % c .regsize) 0 ⌝ }
+{
+    cell(registers, place(c, m.wp, r))
+}
 
 // MOV %d,%s: the value moved, in special-register mode that of a special register.
 fn moved_value(c: Config, m: Core, source: u32, s: u32) -> u32
@@ -28,99 +44,445 @@ fn moved_value(c: Config, m: Core, source: u32, s: u32) -> u32
     s
 }
 
-// The change that the instruction makes, or its stop, 9 to 15.
+// The change that word w makes, whose row's entry is e, or its stop, 9 to 15; `limit` is the return stack's.
 pub fn exec(
     c: Config,
+    limit: usize,
     m: Core,
     inputs: &[u32],
     stack: &[u32],
     registers: &[u32],
     memory: &[u32],
     room: usize,
-    i: Instruction,
-    kind: u32,
-    operation: u32,
-    form: u32,
-    condition: u32,
+    e: u32,
+    w: u32,
 ) -> Change
-    requires { ⌜ Small m × (contextOf m < 4294967296) ⌝ }
-    ensures { λ r. ⌜ r ≡ act (view c m (now (stack .entry)) (now (registers .entry)) (now (memory .entry)) (now (inputs .entry)) room) i (facts kind operation form condition (marksOf kind)) ⌝ }
+    requires { ⌜ Fit c m (length (now registers)) × (contextOf m < 4294967296) × (length (now memory) ≡ c .dmsize) × (limit ≡ stackLimit (c .pcstack)) ⌝ }
+    ensures { λ r. ⌜ Acts (view c m (now (stack .entry)) (now (registers .entry)) (now (memory .entry)) (now (inputs .entry)) room) e w r ⌝ }
 {
-    let wp = m.wp;
-    let d = register_at(registers, wp, i.destination);
-    let s = register_at(registers, wp, i.source);
-    let at = wp + (i.destination as usize);
-    match kind {
+    let last = c.regsize - 1;
+    match e / 67108864 {
         0 => plans::skip(m),
-        1 => plans::compute(
+        1 => plans::compare(
             c,
             m,
-            i.flag,
-            operation_of(operation, i.number),
-            at,
-            d,
-            operand_of(c, form, s, i.value),
+            w / 67108864 % 2,
+            Operation::And,
+            register(c, m, registers, w / 65536),
+            register(c, m, registers, w),
         ),
         2 => plans::compare(
             c,
             m,
-            i.flag,
-            operation_of(operation, i.number),
-            d,
-            operand_of(c, form, s, i.value),
+            w / 67108864 % 2,
+            Operation::And,
+            register(c, m, registers, w / 65536),
+            immediate_in(c, e, w),
         ),
-        3 => plans::multiply(c, m, at, d, operand_of(c, form, s, i.value)),
+        3 => plans::compute(
+            c,
+            m,
+            w / 67108864 % 2,
+            Operation::And,
+            place(c, m.wp, w / 65536),
+            register(c, m, registers, w / 65536),
+            register(c, m, registers, w),
+        ),
         4 => plans::compute(
             c,
             m,
-            i.flag,
-            operation_of(operation, i.number),
-            at,
-            d,
-            operand_of(c, form, s, i.value),
+            w / 67108864 % 2,
+            Operation::And,
+            place(c, m.wp, w / 65536),
+            register(c, m, registers, w / 65536),
+            immediate_in(c, e, w),
         ),
         5 => plans::compute(
             c,
             m,
-            i.flag,
-            operation_of(operation, i.number),
-            at,
-            d,
-            operand_of(c, form, s, i.value),
+            w / 67108864 % 2,
+            Operation::Or,
+            place(c, m.wp, w / 65536),
+            register(c, m, registers, w / 65536),
+            register(c, m, registers, w),
         ),
         6 => plans::compute(
             c,
             m,
-            i.flag,
-            operation_of(operation, i.number),
-            at,
-            d,
-            operand_of(c, form, s, i.value),
+            w / 67108864 % 2,
+            Operation::Or,
+            place(c, m.wp, w / 65536),
+            register(c, m, registers, w / 65536),
+            immediate_in(c, e, w),
         ),
-        7 => plans::load_index(m, i.flag, i.source, i.destination),
-        8 => plans::index_store(c, m, i.flag, d, value_at(registers, wp + m.rx)),
-        9 => plans::index_load(c, m, i.flag, s, wp + m.rx, memory),
-        10 => plans::assign(m, at, moved_value(c, m, i.source, s)),
-        11 => plans::assign(m, at, operand_of(c, form, s, i.value)),
-        12 => plans::load(c, m, at, s, memory),
-        13 => plans::assign(m, at, value_at(memory, i.value as usize)),
-        14 => plans::store(c, m, d, s),
-        15 => plans::store_direct(m, i.value, d),
-        16 => plans::port_read(c, m, at, s, inputs),
-        17 => plans::port_modify(c, m, at, s, inputs, room),
-        18 => plans::port_write(m, d, operand_of(c, form, s, i.value), room),
-        19 => plans::jump(m, i.value as usize),
-        20 => plans::branch(m, condition, i.value as usize),
-        21 => plans::jump(m, (d % 8388608) as usize),
-        22 => plans::branch(m, condition, (d % 8388608) as usize),
-        23 => plans::call(c, m, i.value as usize),
-        24 => plans::call(c, m, (d % 8388608) as usize),
-        25 => plans::ret(m, stack),
-        26 => plans::ret_constant(c, m, at, i.value, stack),
-        27 => plans::enter_bank(c, m, i.destination, i.value),
-        28 => plans::leave_bank(c, m, register_at(registers, wp, 0)),
-        29 => plans::enter_special(m),
-        30 => plans::leave_special(m),
+        7 => plans::compute(
+            c,
+            m,
+            w / 67108864 % 2,
+            Operation::Xor,
+            place(c, m.wp, w / 65536),
+            register(c, m, registers, w / 65536),
+            register(c, m, registers, w),
+        ),
+        8 => plans::compute(
+            c,
+            m,
+            w / 67108864 % 2,
+            Operation::Xor,
+            place(c, m.wp, w / 65536),
+            register(c, m, registers, w / 65536),
+            immediate_in(c, e, w),
+        ),
+        9 => plans::compare(
+            c,
+            m,
+            w / 67108864 % 2,
+            Operation::Sub,
+            register(c, m, registers, w / 65536),
+            register(c, m, registers, w),
+        ),
+        10 => plans::compare(
+            c,
+            m,
+            w / 67108864 % 2,
+            Operation::Sub,
+            register(c, m, registers, w / 65536),
+            immediate_in(c, e, w),
+        ),
+        11 => plans::compare(
+            c,
+            m,
+            w / 67108864 % 2,
+            Operation::Subs,
+            register(c, m, registers, w / 65536),
+            register(c, m, registers, w),
+        ),
+        12 => plans::compare(
+            c,
+            m,
+            w / 67108864 % 2,
+            Operation::Subs,
+            register(c, m, registers, w / 65536),
+            immediate_in(c, e, w),
+        ),
+        13 => plans::compute(
+            c,
+            m,
+            w / 67108864 % 2,
+            Operation::Sub,
+            place(c, m.wp, w / 65536),
+            register(c, m, registers, w / 65536),
+            register(c, m, registers, w),
+        ),
+        14 => plans::compute(
+            c,
+            m,
+            w / 67108864 % 2,
+            Operation::Sub,
+            place(c, m.wp, w / 65536),
+            register(c, m, registers, w / 65536),
+            immediate_in(c, e, w),
+        ),
+        15 => plans::compute(
+            c,
+            m,
+            w / 67108864 % 2,
+            Operation::Subs,
+            place(c, m.wp, w / 65536),
+            register(c, m, registers, w / 65536),
+            register(c, m, registers, w),
+        ),
+        16 => plans::compute(
+            c,
+            m,
+            w / 67108864 % 2,
+            Operation::Subs,
+            place(c, m.wp, w / 65536),
+            register(c, m, registers, w / 65536),
+            immediate_in(c, e, w),
+        ),
+        17 => plans::compute(
+            c,
+            m,
+            w / 67108864 % 2,
+            Operation::Add,
+            place(c, m.wp, w / 65536),
+            register(c, m, registers, w / 65536),
+            register(c, m, registers, w),
+        ),
+        18 => plans::compute(
+            c,
+            m,
+            w / 67108864 % 2,
+            Operation::Add,
+            place(c, m.wp, w / 65536),
+            register(c, m, registers, w / 65536),
+            immediate_in(c, e, w),
+        ),
+        19 => plans::compute(
+            c,
+            m,
+            w / 67108864 % 2,
+            Operation::Addc,
+            place(c, m.wp, w / 65536),
+            register(c, m, registers, w / 65536),
+            register(c, m, registers, w),
+        ),
+        20 => plans::compute(
+            c,
+            m,
+            w / 67108864 % 2,
+            Operation::Addc,
+            place(c, m.wp, w / 65536),
+            register(c, m, registers, w / 65536),
+            immediate_in(c, e, w),
+        ),
+        21 => plans::compute(
+            c,
+            m,
+            w / 67108864 % 2,
+            Operation::Subc,
+            place(c, m.wp, w / 65536),
+            register(c, m, registers, w / 65536),
+            register(c, m, registers, w),
+        ),
+        22 => plans::compute(
+            c,
+            m,
+            w / 67108864 % 2,
+            Operation::Subc,
+            place(c, m.wp, w / 65536),
+            register(c, m, registers, w / 65536),
+            immediate_in(c, e, w),
+        ),
+        23 => plans::multiply(
+            c,
+            m,
+            place(c, m.wp, w / 65536),
+            register(c, m, registers, w / 65536),
+            register(c, m, registers, w),
+        ),
+        24 => plans::multiply(
+            c,
+            m,
+            place(c, m.wp, w / 65536),
+            register(c, m, registers, w / 65536),
+            immediate_in(c, e, w),
+        ),
+        25 => plans::compute(
+            c,
+            m,
+            w / 67108864 % 2,
+            Operation::Shr,
+            place(c, m.wp, w / 65536),
+            register(c, m, registers, w / 65536),
+            register(c, m, registers, w),
+        ),
+        26 => plans::compute(
+            c,
+            m,
+            w / 67108864 % 2,
+            Operation::Shra,
+            place(c, m.wp, w / 65536),
+            register(c, m, registers, w / 65536),
+            register(c, m, registers, w),
+        ),
+        27 => plans::compute(
+            c,
+            m,
+            w / 67108864 % 2,
+            Operation::Shl,
+            place(c, m.wp, w / 65536),
+            register(c, m, registers, w / 65536),
+            register(c, m, registers, w),
+        ),
+        28 => plans::compute(
+            c,
+            m,
+            w / 67108864 % 2,
+            Operation::Shr,
+            place(c, m.wp, w / 65536),
+            register(c, m, registers, w / 65536),
+            w % 65536,
+        ),
+        29 => plans::compute(
+            c,
+            m,
+            w / 67108864 % 2,
+            Operation::Shra,
+            place(c, m.wp, w / 65536),
+            register(c, m, registers, w / 65536),
+            w % 65536,
+        ),
+        30 => plans::compute(
+            c,
+            m,
+            w / 67108864 % 2,
+            Operation::Shl,
+            place(c, m.wp, w / 65536),
+            register(c, m, registers, w / 65536),
+            w % 65536,
+        ),
+        31 => plans::compute(
+            c,
+            m,
+            w / 67108864 % 2,
+            Operation::Rotr,
+            place(c, m.wp, w / 65536),
+            register(c, m, registers, w / 65536),
+            register(c, m, registers, w),
+        ),
+        32 => plans::compute(
+            c,
+            m,
+            w / 67108864 % 2,
+            Operation::Rotl,
+            place(c, m.wp, w / 65536),
+            register(c, m, registers, w / 65536),
+            register(c, m, registers, w),
+        ),
+        33 => plans::compute(
+            c,
+            m,
+            w / 67108864 % 2,
+            Operation::Shl16,
+            place(c, m.wp, w / 65536),
+            register(c, m, registers, w / 65536),
+            register(c, m, registers, w),
+        ),
+        34 => plans::compute(
+            c,
+            m,
+            w / 67108864 % 2,
+            Operation::Abs,
+            place(c, m.wp, w / 65536),
+            register(c, m, registers, w / 65536),
+            register(c, m, registers, w),
+        ),
+        35 => plans::compute(
+            c,
+            m,
+            w / 67108864 % 2,
+            Operation::Clz,
+            place(c, m.wp, w / 65536),
+            register(c, m, registers, w / 65536),
+            register(c, m, registers, w),
+        ),
+        36 => plans::compute(
+            c,
+            m,
+            w / 67108864 % 2,
+            Operation::Bst(w / 8388608 % 4),
+            place(c, m.wp, w / 65536),
+            register(c, m, registers, w / 65536),
+            register(c, m, registers, w),
+        ),
+        37 => plans::compute(
+            c,
+            m,
+            w / 67108864 % 2,
+            Operation::Bld(w / 8388608 % 4),
+            place(c, m.wp, w / 65536),
+            register(c, m, registers, w / 65536),
+            register(c, m, registers, w),
+        ),
+        38 => plans::compute(
+            c,
+            m,
+            w / 67108864 % 2,
+            Operation::Blds(w / 8388608 % 4),
+            place(c, m.wp, w / 65536),
+            register(c, m, registers, w / 65536),
+            register(c, m, registers, w),
+        ),
+        39 => plans::load_index(m, w / 67108864 % 2, w & last, (w / 65536) & last),
+        40 => plans::index_store(
+            c,
+            m,
+            w / 67108864 % 2,
+            register(c, m, registers, w / 65536),
+            cell(registers, m.wp + m.rx),
+        ),
+        41 => plans::index_load(
+            c,
+            m,
+            w / 67108864 % 2,
+            register(c, m, registers, w),
+            m.wp + m.rx,
+            memory,
+        ),
+        42 => plans::assign(
+            m,
+            place(c, m.wp, w / 65536),
+            moved_value(c, m, w & last, register(c, m, registers, w)),
+        ),
+        43 => plans::assign(m, place(c, m.wp, w / 65536), immediate_in(c, e, w)),
+        44 => plans::load(
+            c,
+            m,
+            place(c, m.wp, w / 65536),
+            register(c, m, registers, w),
+            memory,
+        ),
+        45 => plans::assign(
+            m,
+            place(c, m.wp, w / 65536),
+            value_at(memory, (w % 65536) as usize),
+        ),
+        46 => plans::store(
+            c,
+            m,
+            register(c, m, registers, w / 65536),
+            register(c, m, registers, w),
+        ),
+        47 => plans::store_direct(m, w % 65536, register(c, m, registers, w / 65536)),
+        48 => plans::port_read(
+            c,
+            m,
+            place(c, m.wp, w / 65536),
+            register(c, m, registers, w),
+            inputs,
+        ),
+        49 => plans::port_modify(
+            c,
+            m,
+            place(c, m.wp, w / 65536),
+            register(c, m, registers, w),
+            inputs,
+            room,
+        ),
+        50 => plans::port_write(
+            m,
+            register(c, m, registers, w / 65536),
+            register(c, m, registers, w),
+            room,
+        ),
+        51 => plans::port_write(
+            m,
+            register(c, m, registers, w / 65536),
+            immediate_in(c, e, w),
+            room,
+        ),
+        52 => plans::jump(m, (w % 8388608) as usize),
+        53 => plans::branch(m, e / 256 % 16, (w % 8388608) as usize),
+        54 => plans::jump(m, (register(c, m, registers, w / 65536) % 8388608) as usize),
+        55 => plans::branch(
+            m,
+            e / 256 % 16,
+            (register(c, m, registers, w / 65536) % 8388608) as usize,
+        ),
+        56 => plans::call(limit, m, (w % 8388608) as usize),
+        57 => plans::call(
+            limit,
+            m,
+            (register(c, m, registers, w / 65536) % 8388608) as usize,
+        ),
+        58 => plans::ret_constant(c, m, place(c, m.wp, w / 65536), w % 65536, stack),
+        59 => plans::enter_bank(c, m, w / 65536 % 128, w % 65536),
+        60 => plans::ret(m, stack),
+        61 => plans::leave_bank(c, m, cell(registers, m.wp)),
+        62 => plans::leave_special(m),
+        63 => plans::enter_special(m),
         _ => plans::skip(m),
     }
 }

@@ -1,22 +1,22 @@
 // Writes to memories, and tests of whole memories.
 ghost use mathlib.Core.Path.{_≡_};
 ghost use Prim.Native.Nat.{_≤_};
-ghost use lib.ListN.{drop};
+ghost use lib.ListN.{drop, length};
 ghost use Rattle.laws.specs.Test.{below};
 ghost use Rattle.state.specs.State.{state};
 ghost use Rattle.state.specs.Step.{putOf, applied};
+ghost use Rattle.state.proofs.Apply.{Inside, Landing};
 use state::Change;
 use state::Write;
 
-// A write, if it is on and its cell is there.
+// A write, if it is on.
 fn put(xs: &mut [u32], w: Write)
+    requires { ⌜ Inside (length (now xs)) w ⌝ }
     ensures { λ _. ⌜ now (xs .exit) ≡ putOf w (now (xs .entry)) ⌝ }
 {
     if w.on {
         let at = w.at;
-        if at < xs.len() {
-            xs[at] = w.value;
-        }
+        xs[at] = w.value;
     }
 }
 
@@ -29,6 +29,7 @@ pub fn commit(
     addresses: &mut [u32],
     values: &mut [u32],
 )
+    requires { ⌜ Landing (length (now registers)) (length (now memory)) (length (now addresses)) x × (length (now stack) ≡ 63) × (length (now values) ≡ length (now addresses)) ⌝ }
     ensures { λ _. ⌜ state (x .core) (now (stack .exit)) (now (registers .exit)) (now (memory .exit)) (now (addresses .exit)) (now (values .exit)) ≡ applied x (state (x .core) (now (stack .entry)) (now (registers .entry)) (now (memory .entry)) (now (addresses .entry)) (now (values .entry))) ⌝ }
 {
     put(stack, x.stack);

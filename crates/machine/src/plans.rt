@@ -8,11 +8,12 @@ ghost use Rattle.laws.specs.Choice.{pick as choice};
 ghost use Rattle.laws.specs.Test.{imp};
 ghost use Rattle.arith.specs.Width.{one as flag};
 ghost use Rattle.arith.specs.declared.Form.the-variants.{Signed};
-ghost use Rattle.state.specs.State.{top, stackLimit};
+ghost use Rattle.state.specs.State.{top};
 ghost use Rattle.state.specs.Cores.{at, posting, next, flagged, indexed, multiplied, deep, masked, banked, taking, logging, none, write, change, stopped, moved, toRegister, toMemory, toStack, toLog};
 ghost use Rattle.state.specs.Operands.{dataAddress, constant, conditionMet};
 ghost use Rattle.state.specs.Plans.{product, advanced, withTopBit, contextOf, registerTarget};
 ghost use Rattle.machine.specs.Act.{computed, compared, Small};
+use crate::values::cell;
 use crate::values::condition_met;
 use crate::values::cut;
 use crate::values::one;
@@ -23,7 +24,6 @@ use arith::Form;
 use arith::Operation;
 use state::Change;
 use state::Core;
-use state::Machine;
 use state::Write;
 use words::Config;
 
@@ -106,12 +106,12 @@ pub fn index_store(c: Config, m: Core, bit26: u32, a: u32, x: u32) -> Change
 
 // MOVX from DM: i is the cell of the register that RX names.
 pub fn index_load(c: Config, m: Core, bit26: u32, a: u32, i: usize, memory: &[u32]) -> Change
-    requires { ⌜ Small m ⌝ }
+    requires { ⌜ Small m × (length (now memory) ≡ c .dmsize) ⌝ }
     ensures { λ r. ⌜ r ≡ choice (ltb (dataAddress a) (c .dmsize)) (toRegister (flagged (advanced c (next m)) bit26 (flag (eqb (m .rx) (m .ry))) 0) i (getD (now (memory .entry)) (dataAddress a) 0)) (stopped m 13) ⌝ }
 {
     let t = a % 65536;
     if t < c.dmsize {
-        return index_core(c, m, bit26).to_register(i, value_at(memory, t as usize));
+        return index_core(c, m, bit26).to_register(i, cell(memory, t as usize));
     }
     m.stopped(13)
 }
@@ -126,12 +126,12 @@ pub fn assign(m: Core, i: usize, x: u32) -> Change
 
 // MOV %d,@%s: a is the address register's value.
 pub fn load(c: Config, m: Core, i: usize, a: u32, memory: &[u32]) -> Change
-    requires { ⌜ Small m ⌝ }
+    requires { ⌜ Small m × (length (now memory) ≡ c .dmsize) ⌝ }
     ensures { λ r. ⌜ r ≡ choice (ltb (dataAddress a) (c .dmsize)) (toRegister (next m) i (getD (now (memory .entry)) (dataAddress a) 0)) (stopped m 13) ⌝ }
 {
     let t = a % 65536;
     if t < c.dmsize {
-        return next(m).to_register(i, value_at(memory, t as usize));
+        return next(m).to_register(i, cell(memory, t as usize));
     }
     m.stopped(13)
 }
@@ -240,13 +240,13 @@ pub fn branch(m: Core, k: u32, p: usize) -> Change
     next(m).moved()
 }
 
-// A call of p: 10 with the return stack full.
-pub fn call(c: Config, m: Core, p: usize) -> Change
+// A call of p: 10 with the return stack full, at `limit` addresses.
+pub fn call(limit: usize, m: Core, p: usize) -> Change
     requires { ⌜ Small m ⌝ }
-    ensures { λ r. ⌜ r ≡ choice (ltb (m .depth) (stackLimit (c .pcstack))) (toStack (deep (at (next m) p) (m .depth + 1)) (m .depth) (m .pc + 1)) (stopped m 10) ⌝ }
+    ensures { λ r. ⌜ r ≡ choice (ltb (m .depth) limit) (toStack (deep (at (next m) p) (m .depth + 1)) (m .depth) (m .pc + 1)) (stopped m 10) ⌝ }
 {
     let d = m.depth;
-    if d < Machine::stack_limit(c.pcstack) {
+    if d < limit {
         let back = m.pc + 1;
         return m.go(p).deep(d + 1).to_stack(d, back as u32);
     }

@@ -1,15 +1,15 @@
 // What an instruction reads: cells, operands, special registers, conditions. Readers of memories are total: past the end a cell is 0.
 ghost use mathlib.Core.Path.{_≡_};
-ghost use Prim.Native.Nat.{_+_, _-_, _*_, _%_, _^_, _≤_, _<_};
-ghost use lib.ListN.{getD};
+ghost use Prim.Native.Nat.{_+_, _*_, _%_, _^_, _≤_, _<_};
+ghost use lib.ListN.{getD, length};
 ghost use Rattle.laws.specs.Choice.{pick as choice};
 ghost use Rattle.arith.specs.Width.{bits, half};
 ghost use Rattle.arith.specs.Width.{one as flag};
 ghost use Rattle.state.specs.State.{top};
-ghost use Rattle.state.specs.Operands.{operand, operationOf, conditionMet, log2, specialRegister};
+ghost use Rattle.words.specs.Lookup.{immediateIn};
+ghost use Rattle.state.specs.Operands.{operand, conditionMet, log2, specialRegister};
 ghost use Rattle.state.specs.Plans.{withTopBit};
 use arith::Form;
-use arith::Operation;
 use words::Config;
 
 pub fn value_at(xs: &[u32], i: usize) -> u32
@@ -18,12 +18,12 @@ pub fn value_at(xs: &[u32], i: usize) -> u32
     if i < xs.len() { xs[i] } else { 0 }
 }
 
-// The value of register r of the bank at wp.
-pub fn register_at(xs: &[u32], wp: usize, r: u32) -> u32
-    requires { ⌜ wp ≤ 1024 ⌝ }
-    ensures { λ x. ⌜ x ≡ getD (now (xs .entry)) (wp + r) 0 ⌝ }
+// The same where the cell is there.
+pub fn cell(xs: &[u32], i: usize) -> u32
+    requires { ⌜ i < length (now xs) ⌝ }
+    ensures { λ r. ⌜ r ≡ getD (now (xs .entry)) i 0 ⌝ }
 {
-    value_at(xs, wp + (r as usize))
+    xs[i]
 }
 
 // The number of a test: 1 or 0.
@@ -51,53 +51,19 @@ pub fn cut(width: u32, x: u64) -> u32
     (x % top_of(width)) as u32
 }
 
-// The operand by its form.
-pub fn operand_of(c: Config, form: u32, source: u32, value: u32) -> u32
-    ensures { λ r. ⌜ r ≡ operand c form source value ⌝ }
+// The immediate in bits 15-0 of w, by the form in entry e.
+pub fn immediate_in(c: Config, e: u32, w: u32) -> u32
+    ensures { λ r. ⌜ r ≡ operand c (immediateIn e) 0 (w % 65536) ⌝ }
 {
-    match form {
-        0 => source,
-        1 => source,
-        2 => arith::immediate(c.regwidth, Form::Signed, value),
-        3 => arith::immediate(c.regwidth, Form::Unsigned, value),
-        4 => arith::immediate(c.regwidth, Form::Shifted, value),
-        5 => 0,
-        6 => value,
-        _ => 0,
+    let v = w % 65536;
+    let form = e / 4096 % 4;
+    if form == 0 {
+        return arith::immediate(c.regwidth, Form::Signed, v);
     }
-}
-
-// The ALU operation by its number; k is the byte number.
-pub fn operation_of(o: u32, k: u32) -> Operation
-    ensures { λ r. ⌜ r ≡ operationOf o k ⌝ }
-{
-    match o {
-        0 => Operation::And,
-        1 => Operation::And,
-        2 => Operation::And,
-        3 => Operation::Or,
-        4 => Operation::Xor,
-        5 => Operation::Sub,
-        6 => Operation::Subs,
-        7 => Operation::Sub,
-        8 => Operation::Subs,
-        9 => Operation::Add,
-        10 => Operation::Addc,
-        11 => Operation::Subc,
-        12 => Operation::And,
-        13 => Operation::Shr,
-        14 => Operation::Shra,
-        15 => Operation::Shl,
-        16 => Operation::Rotr,
-        17 => Operation::Rotl,
-        18 => Operation::Shl16,
-        19 => Operation::Abs,
-        20 => Operation::Clz,
-        21 => Operation::Bst(k),
-        22 => Operation::Bld(k),
-        23 => Operation::Blds(k),
-        _ => Operation::And,
+    if form == 1 {
+        return arith::immediate(c.regwidth, Form::Unsigned, v);
     }
+    arith::immediate(c.regwidth, Form::Shifted, v)
 }
 
 // Whether a jump with condition k is taken.

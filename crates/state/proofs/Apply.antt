@@ -18,11 +18,24 @@ use Rattle.state.proofs.Good.{Ranged, Good}
 pub record Small (b : ℕ) (w : Write) : Type 0 where
   pub below : T (w .on) → w .value < b
 
+-- the cell that is written, if any, is one of n
+pub record Inside (n : ℕ) (w : Write) : Type 0 where
+  pub cell : T (w .on) → w .at < n
+
+-- every write of a change falls on a cell: of the registers, the data memory, the return stack, the log
+pub record Landing (registers memory room : ℕ) (x : Change) : Type 0 where
+  pub reg : Inside registers (x .reg)
+  pub dm : Inside memory (x .dm)
+  pub stack : Inside 63 (x .stack)
+  pub logat : Inside room (x .logat)
+  pub logval : Inside room (x .logval)
+
 pub record Sound (e : Env) (s : State) (x : Change) : Type 0 where
   pub core : Ranged (e .config) (length (e .inputs)) (length (s .addresses)) (x .core)
   pub reg : Small (top (e .config)) (x .reg)
   pub dm : Small (top (e .config)) (x .dm)
   pub stack : Small (e .config .imsize + 1) (x .stack)
+  pub landing : Landing (e .config .rmsize) (e .config .dmsize) (length (s .addresses)) x
   pub zeros : Below 1 (drop (x .core .depth) (putOf (x .stack) (s .stack)))
 
 pub put-length : (w : Write) (xs : List ℕ) → length (putOf w xs) ≡ length xs

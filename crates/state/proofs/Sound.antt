@@ -16,7 +16,7 @@ use Rattle.laws.specs.Cells.{below-at, below-above, below-from}
 use Rattle.words.specs.declared.Config.{Config}
 use Rattle.words.specs.declared.Instruction.{Instruction}
 use Rattle.words.specs.declared.Facts.{Facts}
-use Rattle.words.specs.Kinds.{load-index, enter-bank, leave-bank}
+use Rattle.words.specs.Kinds.{load-index, store-direct, enter-bank, leave-bank}
 use Rattle.arith.specs.declared.Form.{Form}
 use Rattle.arith.specs.declared.Form.the-variants.{Signed, Unsigned, Shifted}
 use Rattle.arith.specs.Width.{bits}
@@ -30,9 +30,9 @@ use Rattle.state.specs.Plans.{advanced, contextOf, registerTarget, D, S,
 use Rattle.state.specs.Stops.{partsAt, factsAt}
 use Rattle.state.specs.Step.{putOf, planAt}
 use Rattle.state.proofs.Good.{Bounds, bounds, top-byte, InBank, Posted, Ranged, Good}
-use Rattle.state.proofs.Told.{pushing, popping, reading, writing, Told}
+use Rattle.state.proofs.Told.{pushing, popping, reading, writing, assigning, storing, Told}
 use Rattle.state.proofs.Kept.{kept-at, kept-banked, kept-indexed, kept-flagged, kept-multiplied, kept-deep, kept-masked, kept-posting, kept-taking, kept-logging}
-use Rattle.state.proofs.Apply.{Small, Sound}
+use Rattle.state.proofs.Apply.{Small, Inside, Landing, Sound}
 
 -- a write of a small value, and none
 wrote : {b i v : ℕ} → v < b → Small b (write i v)
@@ -40,6 +40,13 @@ wrote h = record { below = λ t. h }
 
 no-write : {b : ℕ} → Small b none
 no-write = record { below = λ t. absurd t }
+
+-- at a cell, and at none
+landed : {n i v : ℕ} → i < n → Inside n (write i v)
+landed h = record { cell = λ t. h }
+
+nowhere : {n : ℕ} → Inside n none
+nowhere = record { cell = λ t. absurd t }
 
 module _ (e : Env) (s : State) (g : Good e s) where
   abbrev c : Config
@@ -114,19 +121,38 @@ module _ (e : Env) (s : State) (g : Good e s) where
         In m →
         m .depth ≡ s .core .depth →
         Small (top c) reg →
+        Inside (c .rmsize) reg →
         Small (top c) dm →
+        Inside (c .dmsize) dm →
+        Inside (length (s .addresses)) at′ →
+        Inside (length (s .addresses)) val′ →
         Sound e s (change m reg dm none at′ val′)
     unfolding putOf pick
-    plain h d r q = record { core = h; reg = r; dm = q; stack = no-write; zeros = rw d (g .zeros) }
+    plain h d r r′ q q′ a v =
+        record {
+          core = h;
+          reg = r;
+          dm = q;
+          stack = no-write;
+          landing = record { reg = r′; dm = q′; stack = nowhere; logat = a; logval = v };
+          zeros = rw d (g .zeros);
+        }
 
     moved-sound : {m : Core} → In m → m .depth ≡ s .core .depth → Sound e s (moved m)
-    moved-sound h d = plain h d no-write no-write
+    moved-sound h d = plain h d no-write nowhere no-write nowhere nowhere nowhere
 
-    register-sound : {m : Core} {r x : ℕ} → In m → m .depth ≡ s .core .depth → x < top c → Sound e s (toRegister m r x)
-    register-sound h d q = plain h d (wrote q) no-write
+    register-sound : {m : Core} {r x : ℕ} → In m → m .depth ≡ s .core .depth → x < top c → r < c .rmsize → Sound e s (toRegister m r x)
+    register-sound h d q l = plain h d (wrote q) (landed l) no-write nowhere nowhere nowhere
 
-    memory-sound : {m : Core} {a x : ℕ} → In m → m .depth ≡ s .core .depth → x < top c → Sound e s (toMemory m a x)
-    memory-sound h d q = plain h d no-write (wrote q)
+    memory-sound : {m : Core} {a x : ℕ} → In m → m .depth ≡ s .core .depth → x < top c → a < c .dmsize → Sound e s (toMemory m a x)
+    memory-sound h d q l = plain h d no-write nowhere (wrote q) (landed l) nowhere nowhere
+
+    -- cells of the active bank
+    in-bank : {r : ℕ} → r < c .regsize → cell v r < c .rmsize
+    in-bank h = omega (arith, g .core .bank .inside)
+
+    assigned : Member (f .kind) assigning → cell v (i .destination) < c .rmsize
+    assigned k = in-bank (t .assigns k)
 
     -- arithmetic
 
@@ -140,16 +166,17 @@ module _ (e : Env) (s : State) (g : Good e s) where
     unfolding comparePlan
     compare-sound = moved-sound flagged-in refl
 
-    compute-sound : Sound e s (computePlan v i f)
+    compute-sound : Member (f .kind) assigning → Sound e s (computePlan v i f)
     unfolding computePlan
-    compute-sound = register-sound flagged-in refl (result-fits .word)
+    compute-sound k = register-sound flagged-in refl (result-fits .word) (assigned k)
 
-    multiply-sound : Sound e s (multiplyPlan v i f)
+    multiply-sound : Member (f .kind) assigning → Sound e s (multiplyPlan v i f)
     unfolding multiplyPlan
-    multiply-sound =
+    multiply-sound k =
         let p = product-answer-fits (c .regwidth) (D v i f) (X v i f) in
         register-sound (kept-multiplied onward (record { word = p .high-word; none = λ z. p .high-none (omega (arith, law .same-width)) })) refl
         (p .word)
+        (assigned k)
 
     -- indices
 
@@ -167,59 +194,66 @@ module _ (e : Env) (s : State) (g : Good e s) where
             (λ u. let n : s .core .rx + 1 ≡ c .regsize → ⊥ = λ q. u (eq→eqb (s .core .rx + 1) (c .regsize) q) in
             omega (arith, g .core .indices .x))
 
-    index-store-sound : Sound e s (indexStorePlan v i f)
+    index-store-sound : Member (f .kind) storing → Sound e s (indexStorePlan v i f)
     unfolding indexStorePlan advanced
-    index-store-sound = memory-sound index-in refl (register-word (s .core .rx))
+    index-store-sound k = memory-sound index-in refl (register-word (s .core .rx)) (t .stores k)
 
     index-load-sound : Sound e s (indexLoadPlan v i f)
     unfolding indexLoadPlan advanced
-    index-load-sound = register-sound index-in refl (memory-word _)
+    index-load-sound = register-sound index-in refl (memory-word _) (in-bank (g .core .indices .x))
 
     -- moves
 
-    move-sound : Sound e s (movePlan v i f)
+    move-sound : Member (f .kind) assigning → Sound e s (movePlan v i f)
     unfolding movePlan specialRegister
-    move-sound =
+    move-sound k =
         register-sound onward refl
         (either (λ x. x < top c) (eqb (s .core .mode) 1) (specialRegister c (s .core .spr7) (i .source)) (S v i f) (λ u. cut _)
         (λ u. register-word (i .source)))
+        (assigned k)
 
-    constant-sound : Sound e s (constantPlan v i f)
+    constant-sound : Member (f .kind) assigning → Sound e s (constantPlan v i f)
     unfolding constantPlan
-    constant-sound = register-sound onward refl operand-word
+    constant-sound k = register-sound onward refl operand-word (assigned k)
 
-    load-register-sound : Sound e s (loadRegisterPlan v i f)
+    load-register-sound : Member (f .kind) assigning → Sound e s (loadRegisterPlan v i f)
     unfolding loadRegisterPlan
-    load-register-sound = register-sound onward refl (memory-word _)
+    load-register-sound k = register-sound onward refl (memory-word _) (assigned k)
 
-    load-direct-sound : Sound e s (loadDirectPlan v i f)
+    load-direct-sound : Member (f .kind) assigning → Sound e s (loadDirectPlan v i f)
     unfolding loadDirectPlan
-    load-direct-sound = register-sound onward refl (memory-word _)
+    load-direct-sound k = register-sound onward refl (memory-word _) (assigned k)
 
-    store-register-sound : Sound e s (storeRegisterPlan v i f)
+    store-register-sound : Member (f .kind) storing → Sound e s (storeRegisterPlan v i f)
     unfolding storeRegisterPlan
-    store-register-sound = memory-sound onward refl (register-word (i .source))
+    store-register-sound k = memory-sound onward refl (register-word (i .source)) (t .stores k)
 
-    store-direct-sound : Sound e s (storeDirectPlan v i f)
+    store-direct-sound : f .kind ≡ store-direct → Sound e s (storeDirectPlan v i f)
     unfolding storeDirectPlan
-    store-direct-sound = memory-sound onward refl (register-word (i .destination))
+    store-direct-sound k = memory-sound onward refl (register-word (i .destination)) (t .stores-direct k)
 
     -- ports
 
-    port-read-sound : Member (f .kind) reading → Sound e s (portReadPlan v i f)
+    port-read-sound : Member (f .kind) reading → Member (f .kind) assigning → Sound e s (portReadPlan v i f)
     unfolding portReadPlan
-    port-read-sound k = register-sound (kept-taking onward (t .reads k)) refl (cut _)
+    port-read-sound k l = register-sound (kept-taking onward (t .reads k)) refl (cut _) (assigned l)
 
     port-write-sound : Member (f .kind) writing → Sound e s (portWritePlan v i f)
     unfolding portWritePlan
     port-write-sound k =
-        plain (kept-posting (kept-logging onward (t .writes k)) (loud (register-word (i .destination)))) refl no-write no-write
+        plain (kept-posting (kept-logging onward (t .writes k)) (loud (register-word (i .destination)))) refl no-write nowhere no-write nowhere
+        (landed (t .writes k))
+        (landed (t .writes k))
 
-    port-modify-sound : Member (f .kind) reading → Member (f .kind) writing → Sound e s (portModifyPlan v i f)
+    port-modify-sound : Member (f .kind) reading → Member (f .kind) writing → Member (f .kind) assigning → Sound e s (portModifyPlan v i f)
     unfolding portModifyPlan
-    port-modify-sound k l =
+    port-modify-sound k l a =
         plain (kept-posting (kept-logging (kept-taking onward (t .reads k)) (t .writes l)) (loud (register-word (i .source)))) refl (wrote (cut _))
+        (landed (assigned a))
         no-write
+        nowhere
+        (landed (t .writes l))
+        (landed (t .writes l))
 
     -- control
 
@@ -243,15 +277,18 @@ module _ (e : Env) (s : State) (g : Good e s) where
           reg = no-write;
           dm = no-write;
           stack = wrote (omega (arith, t .pc));
+          landing =
+              record { reg = nowhere; dm = nowhere; stack = landed (omega (arith, law .stack)); logat = nowhere; logval = nowhere };
           zeros = rw (add-one (s .core .depth)) (below-above 1 (s .stack) (s .core .depth) (s .core .pc + 1) (g .zeros));
         }
 
     return-sound : {reg : Write} →
         Member (f .kind) popping →
         Small (top c) reg →
+        Inside (c .rmsize) reg →
         Sound e s (change (returned v i f) reg none (write (newest v i f) 0) none none)
     unfolding putOf pick
-    return-sound k r =
+    return-sound k r l =
         let d = t .pops k in
         let n = newest v i f in
         let u : suc n ≡ s .core .depth = omega arith in
@@ -262,6 +299,14 @@ module _ (e : Env) (s : State) (g : Good e s) where
           reg = r;
           dm = no-write;
           stack = wrote (omega arith);
+          landing =
+              record {
+                reg = l;
+                dm = nowhere;
+                stack = landed (omega (arith, g .core .depth, law .stack));
+                logat = nowhere;
+                logval = nowhere;
+              };
           zeros = below-from 1 (s .stack) n 0 (omega arith) (rw u (g .zeros));
         }
 
@@ -282,6 +327,7 @@ module _ (e : Env) (s : State) (g : Good e s) where
     enter-bank-sound k =
         let h = t .enters k in
         register-sound (kept-banked (to (omega (arith, h .address))) (in-unit (i .destination) (h .bank))) refl (context-word k)
+        (omega (arith, h .bank, law .registers-some))
 
     leave-bank-sound : f .kind ≡ leave-bank → Sound e s (leaveBankPlan v i f)
     unfolding leaveBankPlan
@@ -309,23 +355,23 @@ module _ (e : Env) (s : State) (g : Good e s) where
         by-kind : Placed (λ k x. f .kind ≡ k → Sound e s x) 0 (plans v i f)
         by-kind =
             (λ k. moved-sound onward refl) also
-            (λ k. compute-sound) also
+            (λ k. compute-sound (inl k)) also
             (λ k. compare-sound) also
-            (λ k. multiply-sound) also
-            (λ k. compute-sound) also
-            (λ k. compute-sound) also
-            (λ k. compute-sound) also
+            (λ k. multiply-sound (inr (inl k))) also
+            (λ k. compute-sound (inr (inr (inl k)))) also
+            (λ k. compute-sound (inr (inr (inr (inl k))))) also
+            (λ k. compute-sound (inr (inr (inr (inr (inl k)))))) also
             load-index-sound also
-            (λ k. index-store-sound) also
+            (λ k. index-store-sound (inl k)) also
             (λ k. index-load-sound) also
-            (λ k. move-sound) also
-            (λ k. constant-sound) also
-            (λ k. load-register-sound) also
-            (λ k. load-direct-sound) also
-            (λ k. store-register-sound) also
-            (λ k. store-direct-sound) also
-            (λ k. port-read-sound (inl k)) also
-            (λ k. port-modify-sound (inr k) (inl k)) also
+            (λ k. move-sound (inr (inr (inr (inr (inr (inl k))))))) also
+            (λ k. constant-sound (inr (inr (inr (inr (inr (inr (inl k)))))))) also
+            (λ k. load-register-sound (inr (inr (inr (inr (inr (inr (inr (inl k))))))))) also
+            (λ k. load-direct-sound (inr (inr (inr (inr (inr (inr (inr (inr (inl k)))))))))) also
+            (λ k. store-register-sound (inr k)) also
+            store-direct-sound also
+            (λ k. port-read-sound (inl k) (inr (inr (inr (inr (inr (inr (inr (inr (inr (inl k))))))))))) also
+            (λ k. port-modify-sound (inr k) (inl k) (inr (inr (inr (inr (inr (inr (inr (inr (inr (inr (inl k)))))))))))) also
             (λ k. port-write-sound (inr k)) also
             (λ k. jump-sound (t .target (inl k))) also
             (λ k. branch-sound (i .value) (t .target (inr (inl k)))) also
@@ -333,8 +379,8 @@ module _ (e : Env) (s : State) (g : Good e s) where
             (λ k. branch-sound (registerTarget (D v i f)) register-target) also
             (λ k. call-sound (i .value) (inl k) (t .target (inr (inr k)))) also
             (λ k. call-sound (registerTarget (D v i f)) (inr k) register-target) also
-            (λ k. return-sound (inl k) no-write) also
-            (λ k. return-sound (inr k) (wrote (constant-word _ _))) also
+            (λ k. return-sound (inl k) no-write nowhere) also
+            (λ k. return-sound (inr k) (wrote (constant-word _ _)) (landed (assigned (inr (inr (inr (inr (inr (inr (inr (inr (inr (inr (inr k)))))))))))))) also
             enter-bank-sound also
             leave-bank-sound also
             (λ k. enter-special-sound) also

@@ -3,6 +3,7 @@
 use Prim.Native.Nat.{ℕ, zero, suc}
 use mathlib.Core.Path.{_≡_}
 use lib.Dec.{eqb, eqb→eq}
+use lib.ListN.{length}
 use Rattle.laws.specs.Choice.{either}
 use Rattle.laws.specs.First.{Every, first-failing}
 use Rattle.laws.specs.Test.{eq→eqb}
@@ -13,7 +14,7 @@ use Rattle.state.specs.Run.{Run, ended, after, runOf}
 use Rattle.state.specs.Claims.{Valid, StaysValid}
 use Rattle.state.proofs.Good.{Good, good, valid, accepted}
 use Rattle.state.proofs.Told.{told}
-use Rattle.state.proofs.Apply.{applied-good}
+use Rattle.state.proofs.Apply.{Landing, applied-good}
 use Rattle.state.proofs.Sound.{plan-sound}
 
 pub stays-good : (e : Env) (s : State) → Good e s → Good e (advanceOf e s .state)
@@ -22,6 +23,10 @@ stays-good e s g =
     either (λ (o : Outcome). Good e (o .state)) (eqb (number e s) 0) _ (refused (number e s) s)
     (λ t. applied-good e s (planAt e s) g (plan-sound e s g (told e s (eqb→eq (number e s) 0 t))))
     (λ f. g)
+
+-- and what such a step writes falls on cells that are there
+pub lands : (e : Env) (s : State) → Good e s → number e s ≡ 0 → Landing (e .config .rmsize) (e .config .dmsize) (length (s .addresses)) (planAt e s)
+lands e s g z = plan-sound e s g (told e s z) .landing
 
 pub stays-valid : StaysValid
 stays-valid e s h = valid e (advanceOf e s .state) (stays-good e s (good e s h))

@@ -2,6 +2,7 @@
 -- Assumes nothing.
 use Prim.Native.Nat.{ℕ, _+_, _*_, _/_, _<_, _≤_}
 use mathlib.Core.Path.{_≡_}
+use mathlib.Core.Bool.{_&&_}
 use mathlib.Core.List.{List, [], _∷_}
 use lib.Dec.{T, eqb}
 use lib.ListN.{length}
@@ -11,7 +12,8 @@ use Rattle.laws.specs.Table.{every, at-every}
 use Rattle.words.specs.declared.Config.{Config}
 use Rattle.words.specs.declared.Instruction.{Instruction}
 use Rattle.words.specs.declared.Facts.{Facts}
-use Rattle.words.specs.Parts.{register, target, count, entry, banks, limit, available}
+use Rattle.words.specs.Parts.{register, write-address, target, count, entry, banks, limit, available}
+use Rattle.words.specs.Kinds.{compute, multiply, shift, transform, bytewise, move, constant, load-register, load-direct, index-store, store-register, store-direct}
 use Rattle.words.specs.Kinds.{load-index, port-read, port-modify, port-write, jump, branch, call, call-register, return, return-constant, enter-bank, leave-bank, counted, marks, marksOf}
 use Rattle.words.specs.Rows.{Row, rows, rowCount, rowAt}
 use Rattle.words.specs.Words.{fits, refusals567}
@@ -40,6 +42,15 @@ reading = port-read ∷ port-modify ∷ []
 abbrev pub writing : List ℕ
 writing = port-modify ∷ port-write ∷ []
 
+-- the kinds that write the destination register, and the data cell that the destination addresses
+
+abbrev pub assigning : List ℕ
+assigning =
+    compute ∷ multiply ∷ shift ∷ transform ∷ bytewise ∷ move ∷ constant ∷ load-register ∷ load-direct ∷ port-read ∷ port-modify ∷ return-constant ∷ []
+
+abbrev pub storing : List ℕ
+storing = index-store ∷ store-register ∷ []
+
 -- what parts and marks a row of each kind has
 abbrev tells : Row → Facts → Test
 tells r f =
@@ -51,7 +62,10 @@ tells r f =
     if? (member (f .kind) popping) (yes? (f .returns)) and
     if? (member (f .kind) reading) (yes? (f .input)) and
     if? (member (f .kind) writing) (yes? (f .output)) and
-    if? (eqb (f .form) counted) (same (r .value) count)
+    if? (eqb (f .form) counted) (same (r .value) count) and
+    if? (member (f .kind) assigning) (same (r .destination) register) and
+    if? (eqb (f .kind) store-direct) (same (r .value) write-address) and
+    if? (member (f .kind) storing) (yes? (f .indirect && f .store))
 
 all-tell : T (every rowCount (λ n. test (tells (rowAt n) (factsOf n))))
 unfolding rows rowAt marks marksOf factsOf
@@ -79,6 +93,9 @@ pub record Told (e : Env) (s : State) : Type 0 where
   pub reads : Member (factsAt e s .kind) reading → s .core .taken < length (e .inputs)
   pub writes : Member (factsAt e s .kind) writing → s .core .logged < length (s .addresses)
   pub count : factsAt e s .form ≡ counted → partsAt e s .value < 16
+  pub assigns : Member (factsAt e s .kind) assigning → partsAt e s .destination < e .config .regsize
+  pub stores-direct : factsAt e s .kind ≡ store-direct → partsAt e s .value < e .config .dmsize
+  pub stores : Member (factsAt e s .kind) storing → operands.dataAddress (operands.register (viewOf e s) (partsAt e s .destination)) < e .config .dmsize
 
 pub told : (e : Env) (s : State) → number e s ≡ 0 → Told e s
 unfolding number stops refusals567 stops9to15 fits limit available
@@ -110,5 +127,8 @@ told e s h =
       pops = λ z. q .1 .0 (t .1 .1 .1 .1 .1 .0 (member-tests k popping z));
       reads = λ z. q .1 .1 .1 .1 .0 (t .1 .1 .1 .1 .1 .1 .0 (member-tests k reading z));
       writes = λ z. q .1 .1 .1 .1 .1 .0 (t .1 .1 .1 .1 .1 .1 .1 .0 (member-tests k writing z));
-      count = λ z. rw (t .1 .1 .1 .1 .1 .1 .1 .1 (eq→eqb (factsAt e s .form) counted z)) at (f .1 .1 .1 .1 .0);
+      count = λ z. rw (t .1 .1 .1 .1 .1 .1 .1 .1 .0 (eq→eqb (factsAt e s .form) counted z)) at (f .1 .1 .1 .1 .0);
+      assigns = λ z. rw (t .1 .1 .1 .1 .1 .1 .1 .1 .1 .0 (member-tests k assigning z)) at (f .1 .1 .0);
+      stores-direct = λ z. rw (t .1 .1 .1 .1 .1 .1 .1 .1 .1 .1 .0 (eq→eqb k store-direct z)) at (f .1 .1 .1 .1 .0);
+      stores = λ z. q .1 .1 .1 .0 .1 (t .1 .1 .1 .1 .1 .1 .1 .1 .1 .1 .1 (member-tests k storing z));
     }

@@ -1,144 +1,289 @@
 -- `machine::exec::exec` meets its contract. Assumes nothing.
-use Rattle.laws.specs.Choice.{pick}
-use borrow.Author.Tests.{lt-ltb, le-ltb, le-leb, lt-leb, eq-eqb, ne-eqb, not-true, not-false}
 use native.Mathlib.Omega.{arith}
-use Prim.Native.Nat.{_+_, _*_, _%_}
-use lib.Dec.{ltb, leb}
-use lib.ListN.{getD}
-use Rattle.words.specs.Kinds.{marks, marksOf}
-use Rattle.state.specs.Stops.{stops9to15}
-use Rattle.state.specs.Plans.{branchPlan, branchRegisterPlan, callPlan, callRegisterPlan, comparePlan, computePlan, constantPlan, enterBankPlan, enterSpecialPlan, indexLoadPlan, indexStorePlan, jumpPlan, jumpRegisterPlan, leaveBankPlan, leaveSpecialPlan, loadDirectPlan, loadIndexPlan, loadRegisterPlan, movePlan, multiplyPlan, portModifyPlan, portReadPlan, portWritePlan, returnConstantPlan, returnPlan, storeDirectPlan, storeRegisterPlan, planOf}
-use Rattle.machine.specs.Act.{act, movedValue}
-use Rattle.machine.proofs.Acting.{trim, no-kind, unsupported-kind, computes, compares}
-use mathlib.Core.Path.{_∙_}
+use mathlib.Core.Path.{refl, ap}
 use mathlib.Core.Logic.{inl, inr}
+use Rattle.words.specs.Actions.{actions}
+use Rattle.words.specs.Lookup.{actionAt}
+use Rattle.words.proofs.Lookup.{land-size}
+use Rattle.arith.specs.declared.Operation.the-variants.{Bst, Bld, Blds}
+use Rattle.state.specs.Operands.{view, operations, operationOf}
+use Rattle.state.proofs.Good.{bounds}
+use Rattle.machine.proofs.Acting.{past-actions, agreed, source-is, immediate-is, count-is, computing-is, comparing-is, unsupported-is, multiply-is, load-index-is, index-store-is, index-load-is, move-is, constant-is, load-register-is, load-direct-is, store-register-is, store-direct-is, port-read-is, port-modify-is, port-write-is, jump-is, branch-is, jump-register-is, branch-register-is, call-is, call-register-is, return-is, return-constant-is, enter-bank-is, leave-bank-is, enter-special-is, leave-special-is}
 use Rattle.machine.proofs.Operands.{above}
+-- `machine::exec::exec` meets its contract. Assumes nothing.
 use borrow.Author.Needs.{needs}
 use Rattle.machine.proofs.exec.exec.Statement.{statement}
 use Rattle.machine.proofs.exec.exec.Tie as tie
 
+cell-requires-2 : tie.Need-cell-requires-2
+cell-requires-2 c κs = let b = bounds (c .before .before .before .before .before .before .args .c) (c .before .before .before .before .before .before .pre .0 .lawful) in omega (arith, b .registers-some, c .before .before .before .before .before .before .pre .0 .bank)
+
+cell-requires : tie.Need-cell-requires
+cell-requires c κs = omega (arith, c .before .before .before .before .before .before .before .before .pre .0 .bank, c .before .before .before .before .before .before .before .before .pre .0 .index)
+
+sub-last : tie.Need-sub-last
+sub-last c = let b = bounds (c .before .before .before .before .before .args .c) (c .before .before .before .before .before .pre .0 .lawful) in omega (arith, b .registers-some)
+
 returns : tie.Need-returns
-returns c = c .skip .ensures ∙ unsupported-kind _ _ _ _ _ _ (c .before .match .keys1)
+unfolding actionAt actions
+returns c = record { acts = λ i p. unsupported-is _ i _ _ 0 (c .before .match .keys1) p refl refl refl refl (c .skip .ensures) }
 
 returns-2 : tie.Need-returns-2
-returns-2 c = rw (c .before .before .operation-of .ensures, c .before .operand-of .ensures, c .before .before .before .before .before .before .register-at .ensures, c .before .before .before .before .before .register-at2 .ensures) at (c .compute .ensures) ∙ computes _ _ _ _ _ _ (inl (c .before .before .before .match .keys2))
+unfolding actionAt actions operationOf operations
+returns-2 c = record { acts = λ i p. comparing-is _ i _ _ 1 (c .before .before .before .match .keys2) p refl (c .before .before .register .ensures) (c .before .register2 .ensures) _ refl tt tt refl (source-is (view (c .before .before .before .before .before .before .before .before .before .args .c) (c .before .before .before .before .before .before .before .before .before .args .m) (c .before .before .before .before .before .before .before .before .before .args .stack .now) (c .before .before .before .before .before .before .before .before .before .args .registers .now) (c .before .before .before .before .before .before .before .before .before .args .memory .now) (c .before .before .before .before .before .before .before .before .before .args .inputs .now) (c .before .before .before .before .before .before .before .before .before .args .room)) i _ _ 1 (c .before .before .before .match .keys2) p refl (c .before .before .register .ensures) (c .before .register2 .ensures) tt tt tt) (c .compare .ensures) }
 
 returns-3 : tie.Need-returns-3
-returns-3 c = rw (c .before .before .operation-of2 .ensures, c .before .operand-of2 .ensures, c .before .before .before .before .before .before .register-at .ensures, c .before .before .before .before .before .register-at2 .ensures) at (c .compare .ensures) ∙ compares _ _ _ _ _ _ (c .before .before .before .match .keys3)
+unfolding actionAt actions operationOf operations
+returns-3 c = record { acts = λ i p. comparing-is _ i _ _ 2 (c .before .before .before .match .keys3) p refl (c .before .before .register3 .ensures) refl _ refl tt tt refl (immediate-is (view (c .before .before .before .before .before .before .before .before .before .args .c) (c .before .before .before .before .before .before .before .before .before .args .m) (c .before .before .before .before .before .before .before .before .before .args .stack .now) (c .before .before .before .before .before .before .before .before .before .args .registers .now) (c .before .before .before .before .before .before .before .before .before .args .memory .now) (c .before .before .before .before .before .before .before .before .before .args .inputs .now) (c .before .before .before .before .before .before .before .before .before .args .room)) i _ _ 2 (c .before .before .before .match .keys3) p refl (c .before .before .register3 .ensures) refl tt tt (c .before .immediate-in .ensures)) (c .compare2 .ensures) }
 
 returns-4 : tie.Need-returns-4
-unfolding act stops9to15 planOf marksOf marks pick multiplyPlan
-returns-4 c = rw (c .before .before .match .keys4, c .multiply .ensures, c .before .operand-of3 .ensures, c .before .before .before .before .before .register-at .ensures, c .before .before .before .before .register-at2 .ensures)
+unfolding actionAt actions operationOf operations
+returns-4 c = record { acts = λ i p. computing-is _ i _ _ 3 (c .before .before .before .before .match .keys4) p (c .before .before .before .place .ensures) (c .before .before .register4 .ensures) (c .before .register5 .ensures) _ (inl refl) tt tt refl (source-is (view (c .before .before .before .before .before .before .before .before .before .before .args .c) (c .before .before .before .before .before .before .before .before .before .before .args .m) (c .before .before .before .before .before .before .before .before .before .before .args .stack .now) (c .before .before .before .before .before .before .before .before .before .before .args .registers .now) (c .before .before .before .before .before .before .before .before .before .before .args .memory .now) (c .before .before .before .before .before .before .before .before .before .before .args .inputs .now) (c .before .before .before .before .before .before .before .before .before .before .args .room)) i _ _ 3 (c .before .before .before .before .match .keys4) p (c .before .before .before .place .ensures) (c .before .before .register4 .ensures) (c .before .register5 .ensures) tt tt tt) (c .compute .ensures) }
 
 returns-5 : tie.Need-returns-5
-returns-5 c = rw (c .before .before .operation-of3 .ensures, c .before .operand-of4 .ensures, c .before .before .before .before .before .before .register-at .ensures, c .before .before .before .before .before .register-at2 .ensures) at (c .compute2 .ensures) ∙ computes _ _ _ _ _ _ (inr (inl (c .before .before .before .match .keys5)))
+unfolding actionAt actions operationOf operations
+returns-5 c = record { acts = λ i p. computing-is _ i _ _ 4 (c .before .before .before .before .match .keys5) p (c .before .before .before .place2 .ensures) (c .before .before .register6 .ensures) refl _ (inl refl) tt tt refl (immediate-is (view (c .before .before .before .before .before .before .before .before .before .before .args .c) (c .before .before .before .before .before .before .before .before .before .before .args .m) (c .before .before .before .before .before .before .before .before .before .before .args .stack .now) (c .before .before .before .before .before .before .before .before .before .before .args .registers .now) (c .before .before .before .before .before .before .before .before .before .before .args .memory .now) (c .before .before .before .before .before .before .before .before .before .before .args .inputs .now) (c .before .before .before .before .before .before .before .before .before .before .args .room)) i _ _ 4 (c .before .before .before .before .match .keys5) p (c .before .before .before .place2 .ensures) (c .before .before .register6 .ensures) refl tt tt (c .before .immediate-in2 .ensures)) (c .compute2 .ensures) }
 
 returns-6 : tie.Need-returns-6
-returns-6 c = rw (c .before .before .operation-of4 .ensures, c .before .operand-of5 .ensures, c .before .before .before .before .before .before .register-at .ensures, c .before .before .before .before .before .register-at2 .ensures) at (c .compute3 .ensures) ∙ computes _ _ _ _ _ _ (inr (inr (inl (c .before .before .before .match .keys6))))
+unfolding actionAt actions operationOf operations
+returns-6 c = record { acts = λ i p. computing-is _ i _ _ 5 (c .before .before .before .before .match .keys6) p (c .before .before .before .place3 .ensures) (c .before .before .register7 .ensures) (c .before .register8 .ensures) _ (inl refl) tt tt refl (source-is (view (c .before .before .before .before .before .before .before .before .before .before .args .c) (c .before .before .before .before .before .before .before .before .before .before .args .m) (c .before .before .before .before .before .before .before .before .before .before .args .stack .now) (c .before .before .before .before .before .before .before .before .before .before .args .registers .now) (c .before .before .before .before .before .before .before .before .before .before .args .memory .now) (c .before .before .before .before .before .before .before .before .before .before .args .inputs .now) (c .before .before .before .before .before .before .before .before .before .before .args .room)) i _ _ 5 (c .before .before .before .before .match .keys6) p (c .before .before .before .place3 .ensures) (c .before .before .register7 .ensures) (c .before .register8 .ensures) tt tt tt) (c .compute3 .ensures) }
 
 returns-7 : tie.Need-returns-7
-returns-7 c = rw (c .before .before .operation-of5 .ensures, c .before .operand-of6 .ensures, c .before .before .before .before .before .before .register-at .ensures, c .before .before .before .before .before .register-at2 .ensures) at (c .compute4 .ensures) ∙ computes _ _ _ _ _ _ (inr (inr (inr (c .before .before .before .match .keys7))))
+unfolding actionAt actions operationOf operations
+returns-7 c = record { acts = λ i p. computing-is _ i _ _ 6 (c .before .before .before .before .match .keys7) p (c .before .before .before .place4 .ensures) (c .before .before .register9 .ensures) refl _ (inl refl) tt tt refl (immediate-is (view (c .before .before .before .before .before .before .before .before .before .before .args .c) (c .before .before .before .before .before .before .before .before .before .before .args .m) (c .before .before .before .before .before .before .before .before .before .before .args .stack .now) (c .before .before .before .before .before .before .before .before .before .before .args .registers .now) (c .before .before .before .before .before .before .before .before .before .before .args .memory .now) (c .before .before .before .before .before .before .before .before .before .before .args .inputs .now) (c .before .before .before .before .before .before .before .before .before .before .args .room)) i _ _ 6 (c .before .before .before .before .match .keys7) p (c .before .before .before .place4 .ensures) (c .before .before .register9 .ensures) refl tt tt (c .before .immediate-in3 .ensures)) (c .compute4 .ensures) }
 
 returns-8 : tie.Need-returns-8
-unfolding act stops9to15 planOf marksOf marks pick loadIndexPlan
-returns-8 c = rw (c .before .match .keys8, c .load-index .ensures)
+unfolding actionAt actions operationOf operations
+returns-8 c = record { acts = λ i p. computing-is _ i _ _ 7 (c .before .before .before .before .match .keys8) p (c .before .before .before .place5 .ensures) (c .before .before .register10 .ensures) (c .before .register11 .ensures) _ (inl refl) tt tt refl (source-is (view (c .before .before .before .before .before .before .before .before .before .before .args .c) (c .before .before .before .before .before .before .before .before .before .before .args .m) (c .before .before .before .before .before .before .before .before .before .before .args .stack .now) (c .before .before .before .before .before .before .before .before .before .before .args .registers .now) (c .before .before .before .before .before .before .before .before .before .before .args .memory .now) (c .before .before .before .before .before .before .before .before .before .before .args .inputs .now) (c .before .before .before .before .before .before .before .before .before .before .args .room)) i _ _ 7 (c .before .before .before .before .match .keys8) p (c .before .before .before .place5 .ensures) (c .before .before .register10 .ensures) (c .before .register11 .ensures) tt tt tt) (c .compute5 .ensures) }
 
 returns-9 : tie.Need-returns-9
-unfolding act stops9to15 planOf marksOf marks pick indexStorePlan
-returns-9 c = rw (c .before .before .before .match .keys9, c .index-store .ensures, c .before .value-at .ensures, c .before .before .before .before .before .before .register-at .ensures)
+unfolding actionAt actions operationOf operations
+returns-9 c = record { acts = λ i p. computing-is _ i _ _ 8 (c .before .before .before .before .match .keys9) p (c .before .before .before .place6 .ensures) (c .before .before .register12 .ensures) refl _ (inl refl) tt tt refl (immediate-is (view (c .before .before .before .before .before .before .before .before .before .before .args .c) (c .before .before .before .before .before .before .before .before .before .before .args .m) (c .before .before .before .before .before .before .before .before .before .before .args .stack .now) (c .before .before .before .before .before .before .before .before .before .before .args .registers .now) (c .before .before .before .before .before .before .before .before .before .before .args .memory .now) (c .before .before .before .before .before .before .before .before .before .before .args .inputs .now) (c .before .before .before .before .before .before .before .before .before .before .args .room)) i _ _ 8 (c .before .before .before .before .match .keys9) p (c .before .before .before .place6 .ensures) (c .before .before .register12 .ensures) refl tt tt (c .before .immediate-in4 .ensures)) (c .compute6 .ensures) }
 
 returns-10 : tie.Need-returns-10
-unfolding act stops9to15 planOf marksOf marks pick indexLoadPlan
-returns-10 c = rw (c .before .before .match .keys10, c .index-load .ensures, c .before .before .before .before .register-at2 .ensures) (trim (ltb (getD (c .before .before .before .before .before .before .before .before .before .before .args .registers .now) (c .before .before .before .before .before .before .before .before .before .before .args .m .wp + c .before .before .before .before .before .before .before .before .before .before .args .i .source) 0 % 65536) (c .before .before .before .before .before .before .before .before .before .before .args .c .dmsize)) _ _)
+unfolding actionAt actions operationOf operations
+returns-10 c = record { acts = λ i p. comparing-is _ i _ _ 9 (c .before .before .before .match .keys10) p refl (c .before .before .register13 .ensures) (c .before .register14 .ensures) _ refl tt tt refl (source-is (view (c .before .before .before .before .before .before .before .before .before .args .c) (c .before .before .before .before .before .before .before .before .before .args .m) (c .before .before .before .before .before .before .before .before .before .args .stack .now) (c .before .before .before .before .before .before .before .before .before .args .registers .now) (c .before .before .before .before .before .before .before .before .before .args .memory .now) (c .before .before .before .before .before .before .before .before .before .args .inputs .now) (c .before .before .before .before .before .before .before .before .before .args .room)) i _ _ 9 (c .before .before .before .match .keys10) p refl (c .before .before .register13 .ensures) (c .before .register14 .ensures) tt tt tt) (c .compare3 .ensures) }
 
 returns-11 : tie.Need-returns-11
-unfolding act stops9to15 planOf marksOf marks pick movePlan movedValue
-returns-11 c = rw (c .before .before .match .keys11, c .assign .ensures, c .before .moved-value .ensures, c .before .before .before .before .register-at2 .ensures)
+unfolding actionAt actions operationOf operations
+returns-11 c = record { acts = λ i p. comparing-is _ i _ _ 10 (c .before .before .before .match .keys11) p refl (c .before .before .register15 .ensures) refl _ refl tt tt refl (immediate-is (view (c .before .before .before .before .before .before .before .before .before .args .c) (c .before .before .before .before .before .before .before .before .before .args .m) (c .before .before .before .before .before .before .before .before .before .args .stack .now) (c .before .before .before .before .before .before .before .before .before .args .registers .now) (c .before .before .before .before .before .before .before .before .before .args .memory .now) (c .before .before .before .before .before .before .before .before .before .args .inputs .now) (c .before .before .before .before .before .before .before .before .before .args .room)) i _ _ 10 (c .before .before .before .match .keys11) p refl (c .before .before .register15 .ensures) refl tt tt (c .before .immediate-in5 .ensures)) (c .compare4 .ensures) }
 
 returns-12 : tie.Need-returns-12
-unfolding act stops9to15 planOf marksOf marks pick constantPlan
-returns-12 c = rw (c .before .before .match .keys12, c .assign2 .ensures, c .before .operand-of7 .ensures, c .before .before .before .before .register-at2 .ensures)
+unfolding actionAt actions operationOf operations
+returns-12 c = record { acts = λ i p. comparing-is _ i _ _ 11 (c .before .before .before .match .keys12) p refl (c .before .before .register16 .ensures) (c .before .register17 .ensures) _ refl tt tt refl (source-is (view (c .before .before .before .before .before .before .before .before .before .args .c) (c .before .before .before .before .before .before .before .before .before .args .m) (c .before .before .before .before .before .before .before .before .before .args .stack .now) (c .before .before .before .before .before .before .before .before .before .args .registers .now) (c .before .before .before .before .before .before .before .before .before .args .memory .now) (c .before .before .before .before .before .before .before .before .before .args .inputs .now) (c .before .before .before .before .before .before .before .before .before .args .room)) i _ _ 11 (c .before .before .before .match .keys12) p refl (c .before .before .register16 .ensures) (c .before .register17 .ensures) tt tt tt) (c .compare5 .ensures) }
 
 returns-13 : tie.Need-returns-13
-unfolding act stops9to15 planOf marksOf marks pick loadRegisterPlan
-returns-13 c = rw (c .before .match .keys13, c .load .ensures, c .before .before .before .register-at2 .ensures) (trim (ltb (getD (c .before .before .before .before .before .before .before .before .before .args .registers .now) (c .before .before .before .before .before .before .before .before .before .args .m .wp + c .before .before .before .before .before .before .before .before .before .args .i .source) 0 % 65536) (c .before .before .before .before .before .before .before .before .before .args .c .dmsize)) _ _)
+unfolding actionAt actions operationOf operations
+returns-13 c = record { acts = λ i p. comparing-is _ i _ _ 12 (c .before .before .before .match .keys13) p refl (c .before .before .register18 .ensures) refl _ refl tt tt refl (immediate-is (view (c .before .before .before .before .before .before .before .before .before .args .c) (c .before .before .before .before .before .before .before .before .before .args .m) (c .before .before .before .before .before .before .before .before .before .args .stack .now) (c .before .before .before .before .before .before .before .before .before .args .registers .now) (c .before .before .before .before .before .before .before .before .before .args .memory .now) (c .before .before .before .before .before .before .before .before .before .args .inputs .now) (c .before .before .before .before .before .before .before .before .before .args .room)) i _ _ 12 (c .before .before .before .match .keys13) p refl (c .before .before .register18 .ensures) refl tt tt (c .before .immediate-in6 .ensures)) (c .compare6 .ensures) }
 
 returns-14 : tie.Need-returns-14
-unfolding act stops9to15 planOf marksOf marks pick loadDirectPlan
-returns-14 c = rw (c .before .before .before .match .keys14, c .assign3 .ensures, c .before .value-at2 .ensures)
+unfolding actionAt actions operationOf operations
+returns-14 c = record { acts = λ i p. computing-is _ i _ _ 13 (c .before .before .before .before .match .keys14) p (c .before .before .before .place7 .ensures) (c .before .before .register19 .ensures) (c .before .register20 .ensures) _ (inl refl) tt tt refl (source-is (view (c .before .before .before .before .before .before .before .before .before .before .args .c) (c .before .before .before .before .before .before .before .before .before .before .args .m) (c .before .before .before .before .before .before .before .before .before .before .args .stack .now) (c .before .before .before .before .before .before .before .before .before .before .args .registers .now) (c .before .before .before .before .before .before .before .before .before .before .args .memory .now) (c .before .before .before .before .before .before .before .before .before .before .args .inputs .now) (c .before .before .before .before .before .before .before .before .before .before .args .room)) i _ _ 13 (c .before .before .before .before .match .keys14) p (c .before .before .before .place7 .ensures) (c .before .before .register19 .ensures) (c .before .register20 .ensures) tt tt tt) (c .compute7 .ensures) }
 
 returns-15 : tie.Need-returns-15
-unfolding act stops9to15 planOf marksOf marks pick storeRegisterPlan
-returns-15 c = rw (c .before .match .keys15, c .store .ensures, c .before .before .before .before .register-at .ensures, c .before .before .before .register-at2 .ensures)
+unfolding actionAt actions operationOf operations
+returns-15 c = record { acts = λ i p. computing-is _ i _ _ 14 (c .before .before .before .before .match .keys15) p (c .before .before .before .place8 .ensures) (c .before .before .register21 .ensures) refl _ (inl refl) tt tt refl (immediate-is (view (c .before .before .before .before .before .before .before .before .before .before .args .c) (c .before .before .before .before .before .before .before .before .before .before .args .m) (c .before .before .before .before .before .before .before .before .before .before .args .stack .now) (c .before .before .before .before .before .before .before .before .before .before .args .registers .now) (c .before .before .before .before .before .before .before .before .before .before .args .memory .now) (c .before .before .before .before .before .before .before .before .before .before .args .inputs .now) (c .before .before .before .before .before .before .before .before .before .before .args .room)) i _ _ 14 (c .before .before .before .before .match .keys15) p (c .before .before .before .place8 .ensures) (c .before .before .register21 .ensures) refl tt tt (c .before .immediate-in7 .ensures)) (c .compute8 .ensures) }
 
 returns-16 : tie.Need-returns-16
-unfolding act stops9to15 planOf marksOf marks pick storeDirectPlan
-returns-16 c = rw (c .before .match .keys16, c .store-direct .ensures, c .before .before .before .before .register-at .ensures)
+unfolding actionAt actions operationOf operations
+returns-16 c = record { acts = λ i p. computing-is _ i _ _ 15 (c .before .before .before .before .match .keys16) p (c .before .before .before .place9 .ensures) (c .before .before .register22 .ensures) (c .before .register23 .ensures) _ (inl refl) tt tt refl (source-is (view (c .before .before .before .before .before .before .before .before .before .before .args .c) (c .before .before .before .before .before .before .before .before .before .before .args .m) (c .before .before .before .before .before .before .before .before .before .before .args .stack .now) (c .before .before .before .before .before .before .before .before .before .before .args .registers .now) (c .before .before .before .before .before .before .before .before .before .before .args .memory .now) (c .before .before .before .before .before .before .before .before .before .before .args .inputs .now) (c .before .before .before .before .before .before .before .before .before .before .args .room)) i _ _ 15 (c .before .before .before .before .match .keys16) p (c .before .before .before .place9 .ensures) (c .before .before .register22 .ensures) (c .before .register23 .ensures) tt tt tt) (c .compute9 .ensures) }
 
 returns-17 : tie.Need-returns-17
-unfolding act stops9to15 planOf marksOf marks pick portReadPlan
-returns-17 c = rw (c .before .match .keys17, c .port-read .ensures, c .before .before .before .register-at2 .ensures)
+unfolding actionAt actions operationOf operations
+returns-17 c = record { acts = λ i p. computing-is _ i _ _ 16 (c .before .before .before .before .match .keys17) p (c .before .before .before .place10 .ensures) (c .before .before .register24 .ensures) refl _ (inl refl) tt tt refl (immediate-is (view (c .before .before .before .before .before .before .before .before .before .before .args .c) (c .before .before .before .before .before .before .before .before .before .before .args .m) (c .before .before .before .before .before .before .before .before .before .before .args .stack .now) (c .before .before .before .before .before .before .before .before .before .before .args .registers .now) (c .before .before .before .before .before .before .before .before .before .before .args .memory .now) (c .before .before .before .before .before .before .before .before .before .before .args .inputs .now) (c .before .before .before .before .before .before .before .before .before .before .args .room)) i _ _ 16 (c .before .before .before .before .match .keys17) p (c .before .before .before .place10 .ensures) (c .before .before .register24 .ensures) refl tt tt (c .before .immediate-in8 .ensures)) (c .compute10 .ensures) }
 
 returns-18 : tie.Need-returns-18
-unfolding act stops9to15 planOf marksOf marks pick portModifyPlan
-returns-18 c = rw (c .before .match .keys18, c .port-modify .ensures, c .before .before .before .register-at2 .ensures)
+unfolding actionAt actions operationOf operations
+returns-18 c = record { acts = λ i p. computing-is _ i _ _ 17 (c .before .before .before .before .match .keys18) p (c .before .before .before .place11 .ensures) (c .before .before .register25 .ensures) (c .before .register26 .ensures) _ (inl refl) tt tt refl (source-is (view (c .before .before .before .before .before .before .before .before .before .before .args .c) (c .before .before .before .before .before .before .before .before .before .before .args .m) (c .before .before .before .before .before .before .before .before .before .before .args .stack .now) (c .before .before .before .before .before .before .before .before .before .before .args .registers .now) (c .before .before .before .before .before .before .before .before .before .before .args .memory .now) (c .before .before .before .before .before .before .before .before .before .before .args .inputs .now) (c .before .before .before .before .before .before .before .before .before .before .args .room)) i _ _ 17 (c .before .before .before .before .match .keys18) p (c .before .before .before .place11 .ensures) (c .before .before .register25 .ensures) (c .before .register26 .ensures) tt tt tt) (c .compute11 .ensures) }
 
 returns-19 : tie.Need-returns-19
-unfolding act stops9to15 planOf marksOf marks pick portWritePlan
-returns-19 c = rw (c .before .before .match .keys19, c .port-write .ensures, c .before .operand-of8 .ensures, c .before .before .before .before .before .register-at .ensures, c .before .before .before .before .register-at2 .ensures)
+unfolding actionAt actions operationOf operations
+returns-19 c = record { acts = λ i p. computing-is _ i _ _ 18 (c .before .before .before .before .match .keys19) p (c .before .before .before .place12 .ensures) (c .before .before .register27 .ensures) refl _ (inl refl) tt tt refl (immediate-is (view (c .before .before .before .before .before .before .before .before .before .before .args .c) (c .before .before .before .before .before .before .before .before .before .before .args .m) (c .before .before .before .before .before .before .before .before .before .before .args .stack .now) (c .before .before .before .before .before .before .before .before .before .before .args .registers .now) (c .before .before .before .before .before .before .before .before .before .before .args .memory .now) (c .before .before .before .before .before .before .before .before .before .before .args .inputs .now) (c .before .before .before .before .before .before .before .before .before .before .args .room)) i _ _ 18 (c .before .before .before .before .match .keys19) p (c .before .before .before .place12 .ensures) (c .before .before .register27 .ensures) refl tt tt (c .before .immediate-in9 .ensures)) (c .compute12 .ensures) }
 
 returns-20 : tie.Need-returns-20
-unfolding act stops9to15 planOf marksOf marks pick jumpPlan
-returns-20 c = rw (c .before .before .match .keys20, c .jump .ensures)
+unfolding actionAt actions operationOf operations
+returns-20 c = record { acts = λ i p. computing-is _ i _ _ 19 (c .before .before .before .before .match .keys20) p (c .before .before .before .place13 .ensures) (c .before .before .register28 .ensures) (c .before .register29 .ensures) _ (inl refl) tt tt refl (source-is (view (c .before .before .before .before .before .before .before .before .before .before .args .c) (c .before .before .before .before .before .before .before .before .before .before .args .m) (c .before .before .before .before .before .before .before .before .before .before .args .stack .now) (c .before .before .before .before .before .before .before .before .before .before .args .registers .now) (c .before .before .before .before .before .before .before .before .before .before .args .memory .now) (c .before .before .before .before .before .before .before .before .before .before .args .inputs .now) (c .before .before .before .before .before .before .before .before .before .before .args .room)) i _ _ 19 (c .before .before .before .before .match .keys20) p (c .before .before .before .place13 .ensures) (c .before .before .register28 .ensures) (c .before .register29 .ensures) tt tt tt) (c .compute13 .ensures) }
 
 returns-21 : tie.Need-returns-21
-unfolding act stops9to15 planOf marksOf marks pick branchPlan
-returns-21 c = rw (c .before .before .match .keys21, c .branch .ensures)
+unfolding actionAt actions operationOf operations
+returns-21 c = record { acts = λ i p. computing-is _ i _ _ 20 (c .before .before .before .before .match .keys21) p (c .before .before .before .place14 .ensures) (c .before .before .register30 .ensures) refl _ (inl refl) tt tt refl (immediate-is (view (c .before .before .before .before .before .before .before .before .before .before .args .c) (c .before .before .before .before .before .before .before .before .before .before .args .m) (c .before .before .before .before .before .before .before .before .before .before .args .stack .now) (c .before .before .before .before .before .before .before .before .before .before .args .registers .now) (c .before .before .before .before .before .before .before .before .before .before .args .memory .now) (c .before .before .before .before .before .before .before .before .before .before .args .inputs .now) (c .before .before .before .before .before .before .before .before .before .before .args .room)) i _ _ 20 (c .before .before .before .before .match .keys21) p (c .before .before .before .place14 .ensures) (c .before .before .register30 .ensures) refl tt tt (c .before .immediate-in10 .ensures)) (c .compute14 .ensures) }
 
 returns-22 : tie.Need-returns-22
-unfolding act stops9to15 planOf marksOf marks pick jumpRegisterPlan
-returns-22 c = rw (c .before .match .keys22, c .jump2 .ensures, c .before .before .before .before .register-at .ensures)
+unfolding actionAt actions operationOf operations
+returns-22 c = record { acts = λ i p. computing-is _ i _ _ 21 (c .before .before .before .before .match .keys22) p (c .before .before .before .place15 .ensures) (c .before .before .register31 .ensures) (c .before .register32 .ensures) _ (inl refl) tt tt refl (source-is (view (c .before .before .before .before .before .before .before .before .before .before .args .c) (c .before .before .before .before .before .before .before .before .before .before .args .m) (c .before .before .before .before .before .before .before .before .before .before .args .stack .now) (c .before .before .before .before .before .before .before .before .before .before .args .registers .now) (c .before .before .before .before .before .before .before .before .before .before .args .memory .now) (c .before .before .before .before .before .before .before .before .before .before .args .inputs .now) (c .before .before .before .before .before .before .before .before .before .before .args .room)) i _ _ 21 (c .before .before .before .before .match .keys22) p (c .before .before .before .place15 .ensures) (c .before .before .register31 .ensures) (c .before .register32 .ensures) tt tt tt) (c .compute15 .ensures) }
 
 returns-23 : tie.Need-returns-23
-unfolding act stops9to15 planOf marksOf marks pick branchRegisterPlan
-returns-23 c = rw (c .before .match .keys23, c .branch2 .ensures, c .before .before .before .before .register-at .ensures)
+unfolding actionAt actions operationOf operations
+returns-23 c = record { acts = λ i p. computing-is _ i _ _ 22 (c .before .before .before .before .match .keys23) p (c .before .before .before .place16 .ensures) (c .before .before .register33 .ensures) refl _ (inl refl) tt tt refl (immediate-is (view (c .before .before .before .before .before .before .before .before .before .before .args .c) (c .before .before .before .before .before .before .before .before .before .before .args .m) (c .before .before .before .before .before .before .before .before .before .before .args .stack .now) (c .before .before .before .before .before .before .before .before .before .before .args .registers .now) (c .before .before .before .before .before .before .before .before .before .before .args .memory .now) (c .before .before .before .before .before .before .before .before .before .before .args .inputs .now) (c .before .before .before .before .before .before .before .before .before .before .args .room)) i _ _ 22 (c .before .before .before .before .match .keys23) p (c .before .before .before .place16 .ensures) (c .before .before .register33 .ensures) refl tt tt (c .before .immediate-in11 .ensures)) (c .compute16 .ensures) }
 
 returns-24 : tie.Need-returns-24
-unfolding act stops9to15 planOf marksOf marks pick callPlan
-returns-24 c = rw (c .before .before .match .keys24, c .call .ensures)
+unfolding actionAt actions
+returns-24 c = record { acts = λ i p. multiply-is _ i _ _ 23 (c .before .before .before .before .match .keys24) p (c .before .before .before .place17 .ensures) (c .before .before .register34 .ensures) (c .before .register35 .ensures) refl tt (source-is (view (c .before .before .before .before .before .before .before .before .before .before .args .c) (c .before .before .before .before .before .before .before .before .before .before .args .m) (c .before .before .before .before .before .before .before .before .before .before .args .stack .now) (c .before .before .before .before .before .before .before .before .before .before .args .registers .now) (c .before .before .before .before .before .before .before .before .before .before .args .memory .now) (c .before .before .before .before .before .before .before .before .before .before .args .inputs .now) (c .before .before .before .before .before .before .before .before .before .before .args .room)) i _ _ 23 (c .before .before .before .before .match .keys24) p (c .before .before .before .place17 .ensures) (c .before .before .register34 .ensures) (c .before .register35 .ensures) tt tt tt) (c .multiply .ensures) }
 
 returns-25 : tie.Need-returns-25
-unfolding act stops9to15 planOf marksOf marks pick callRegisterPlan
-returns-25 c = rw (c .before .match .keys25, c .call2 .ensures, c .before .before .before .before .register-at .ensures)
+unfolding actionAt actions
+returns-25 c = record { acts = λ i p. multiply-is _ i _ _ 24 (c .before .before .before .before .match .keys25) p (c .before .before .before .place18 .ensures) (c .before .before .register36 .ensures) refl refl tt (immediate-is (view (c .before .before .before .before .before .before .before .before .before .before .args .c) (c .before .before .before .before .before .before .before .before .before .before .args .m) (c .before .before .before .before .before .before .before .before .before .before .args .stack .now) (c .before .before .before .before .before .before .before .before .before .before .args .registers .now) (c .before .before .before .before .before .before .before .before .before .before .args .memory .now) (c .before .before .before .before .before .before .before .before .before .before .args .inputs .now) (c .before .before .before .before .before .before .before .before .before .before .args .room)) i _ _ 24 (c .before .before .before .before .match .keys25) p (c .before .before .before .place18 .ensures) (c .before .before .register36 .ensures) refl tt tt (c .before .immediate-in12 .ensures)) (c .multiply2 .ensures) }
 
 returns-26 : tie.Need-returns-26
-unfolding act stops9to15 planOf marksOf marks pick returnPlan
-returns-26 c = rw (c .before .match .keys26, c .ret .ensures)
+unfolding actionAt actions operationOf operations
+returns-26 c = record { acts = λ i p. computing-is _ i _ _ 25 (c .before .before .before .before .match .keys26) p (c .before .before .before .place19 .ensures) (c .before .before .register37 .ensures) (c .before .register38 .ensures) _ (inr (inl refl)) tt tt refl (source-is (view (c .before .before .before .before .before .before .before .before .before .before .args .c) (c .before .before .before .before .before .before .before .before .before .before .args .m) (c .before .before .before .before .before .before .before .before .before .before .args .stack .now) (c .before .before .before .before .before .before .before .before .before .before .args .registers .now) (c .before .before .before .before .before .before .before .before .before .before .args .memory .now) (c .before .before .before .before .before .before .before .before .before .before .args .inputs .now) (c .before .before .before .before .before .before .before .before .before .before .args .room)) i _ _ 25 (c .before .before .before .before .match .keys26) p (c .before .before .before .place19 .ensures) (c .before .before .register37 .ensures) (c .before .register38 .ensures) tt tt tt) (c .compute17 .ensures) }
 
 returns-27 : tie.Need-returns-27
-unfolding act stops9to15 planOf marksOf marks pick returnConstantPlan
-returns-27 c = rw (c .before .match .keys27, c .ret-constant .ensures)
+unfolding actionAt actions operationOf operations
+returns-27 c = record { acts = λ i p. computing-is _ i _ _ 26 (c .before .before .before .before .match .keys27) p (c .before .before .before .place20 .ensures) (c .before .before .register39 .ensures) (c .before .register40 .ensures) _ (inr (inl refl)) tt tt refl (source-is (view (c .before .before .before .before .before .before .before .before .before .before .args .c) (c .before .before .before .before .before .before .before .before .before .before .args .m) (c .before .before .before .before .before .before .before .before .before .before .args .stack .now) (c .before .before .before .before .before .before .before .before .before .before .args .registers .now) (c .before .before .before .before .before .before .before .before .before .before .args .memory .now) (c .before .before .before .before .before .before .before .before .before .before .args .inputs .now) (c .before .before .before .before .before .before .before .before .before .before .args .room)) i _ _ 26 (c .before .before .before .before .match .keys27) p (c .before .before .before .place20 .ensures) (c .before .before .register39 .ensures) (c .before .register40 .ensures) tt tt tt) (c .compute18 .ensures) }
 
 returns-28 : tie.Need-returns-28
-unfolding act stops9to15 planOf marksOf marks pick enterBankPlan
-returns-28 c = rw (c .before .match .keys28, c .enter-bank .ensures) (trim (leb (16 * c .before .before .before .before .before .before .before .before .before .args .i .destination + c .before .before .before .before .before .before .before .before .before .args .c .regsize) (c .before .before .before .before .before .before .before .before .before .args .c .rmsize)) _ _)
+unfolding actionAt actions operationOf operations
+returns-28 c = record { acts = λ i p. computing-is _ i _ _ 27 (c .before .before .before .before .match .keys28) p (c .before .before .before .place21 .ensures) (c .before .before .register41 .ensures) (c .before .register42 .ensures) _ (inr (inl refl)) tt tt refl (source-is (view (c .before .before .before .before .before .before .before .before .before .before .args .c) (c .before .before .before .before .before .before .before .before .before .before .args .m) (c .before .before .before .before .before .before .before .before .before .before .args .stack .now) (c .before .before .before .before .before .before .before .before .before .before .args .registers .now) (c .before .before .before .before .before .before .before .before .before .before .args .memory .now) (c .before .before .before .before .before .before .before .before .before .before .args .inputs .now) (c .before .before .before .before .before .before .before .before .before .before .args .room)) i _ _ 27 (c .before .before .before .before .match .keys28) p (c .before .before .before .place21 .ensures) (c .before .before .register41 .ensures) (c .before .register42 .ensures) tt tt tt) (c .compute19 .ensures) }
 
 returns-29 : tie.Need-returns-29
-unfolding act stops9to15 planOf marksOf marks pick leaveBankPlan
-returns-29 c = rw (c .before .before .match .keys29, c .leave-bank .ensures, c .before .register-at3 .ensures)
+unfolding actionAt actions operationOf operations
+returns-29 c = record { acts = λ i p. computing-is _ i _ _ 28 (c .before .before .before .match .keys29) p (c .before .before .place22 .ensures) (c .before .register43 .ensures) refl _ (inr (inl refl)) tt tt refl (count-is (view (c .before .before .before .before .before .before .before .before .before .args .c) (c .before .before .before .before .before .before .before .before .before .args .m) (c .before .before .before .before .before .before .before .before .before .args .stack .now) (c .before .before .before .before .before .before .before .before .before .args .registers .now) (c .before .before .before .before .before .before .before .before .before .args .memory .now) (c .before .before .before .before .before .before .before .before .before .args .inputs .now) (c .before .before .before .before .before .before .before .before .before .args .room)) i _ _ 28 (c .before .before .before .match .keys29) p (c .before .before .place22 .ensures) (c .before .register43 .ensures) refl tt tt tt) (c .compute20 .ensures) }
 
 returns-30 : tie.Need-returns-30
-unfolding act stops9to15 planOf marksOf marks pick enterSpecialPlan
-returns-30 c = rw (c .before .match .keys30, c .enter-special .ensures)
+unfolding actionAt actions operationOf operations
+returns-30 c = record { acts = λ i p. computing-is _ i _ _ 29 (c .before .before .before .match .keys30) p (c .before .before .place23 .ensures) (c .before .register44 .ensures) refl _ (inr (inl refl)) tt tt refl (count-is (view (c .before .before .before .before .before .before .before .before .before .args .c) (c .before .before .before .before .before .before .before .before .before .args .m) (c .before .before .before .before .before .before .before .before .before .args .stack .now) (c .before .before .before .before .before .before .before .before .before .args .registers .now) (c .before .before .before .before .before .before .before .before .before .args .memory .now) (c .before .before .before .before .before .before .before .before .before .args .inputs .now) (c .before .before .before .before .before .before .before .before .before .args .room)) i _ _ 29 (c .before .before .before .match .keys30) p (c .before .before .place23 .ensures) (c .before .register44 .ensures) refl tt tt tt) (c .compute21 .ensures) }
 
 returns-31 : tie.Need-returns-31
-unfolding act stops9to15 planOf marksOf marks pick leaveSpecialPlan
-returns-31 c = rw (c .before .match .keys31, c .leave-special .ensures)
+unfolding actionAt actions operationOf operations
+returns-31 c = record { acts = λ i p. computing-is _ i _ _ 30 (c .before .before .before .match .keys31) p (c .before .before .place24 .ensures) (c .before .register45 .ensures) refl _ (inr (inl refl)) tt tt refl (count-is (view (c .before .before .before .before .before .before .before .before .before .args .c) (c .before .before .before .before .before .before .before .before .before .args .m) (c .before .before .before .before .before .before .before .before .before .args .stack .now) (c .before .before .before .before .before .before .before .before .before .args .registers .now) (c .before .before .before .before .before .before .before .before .before .args .memory .now) (c .before .before .before .before .before .before .before .before .before .args .inputs .now) (c .before .before .before .before .before .before .before .before .before .args .room)) i _ _ 30 (c .before .before .before .match .keys31) p (c .before .before .place24 .ensures) (c .before .register45 .ensures) refl tt tt tt) (c .compute22 .ensures) }
 
 returns-32 : tie.Need-returns-32
-returns-32 c = c .skip2 .ensures ∙ no-kind _ _ _ _ _ _ (above 30 _ (above 29 _ (above 28 _ (above 27 _ (above 26 _ (above 25 _ (above 24 _ (above 23 _ (above 22 _ (above 21 _ (above 20 _ (above 19 _ (above 18 _ (above 17 _ (above 16 _ (above 15 _ (above 14 _ (above 13 _ (above 12 _ (above 11 _ (above 10 _ (above 9 _ (above 8 _ (above 7 _ (above 6 _ (above 5 _ (above 4 _ (above 3 _ (above 2 _ (above 1 _ (above 0 _ (omega arith) (c .before .match .rest .0 .0 .0 .0 .0 .0 .0 .0 .0 .0 .0 .0 .0 .0 .0 .0 .0 .0 .0 .0 .0 .0 .0 .0 .0 .0 .0 .0 .0 .0 .1)) (c .before .match .rest .0 .0 .0 .0 .0 .0 .0 .0 .0 .0 .0 .0 .0 .0 .0 .0 .0 .0 .0 .0 .0 .0 .0 .0 .0 .0 .0 .0 .0 .1)) (c .before .match .rest .0 .0 .0 .0 .0 .0 .0 .0 .0 .0 .0 .0 .0 .0 .0 .0 .0 .0 .0 .0 .0 .0 .0 .0 .0 .0 .0 .0 .1)) (c .before .match .rest .0 .0 .0 .0 .0 .0 .0 .0 .0 .0 .0 .0 .0 .0 .0 .0 .0 .0 .0 .0 .0 .0 .0 .0 .0 .0 .0 .1)) (c .before .match .rest .0 .0 .0 .0 .0 .0 .0 .0 .0 .0 .0 .0 .0 .0 .0 .0 .0 .0 .0 .0 .0 .0 .0 .0 .0 .0 .1)) (c .before .match .rest .0 .0 .0 .0 .0 .0 .0 .0 .0 .0 .0 .0 .0 .0 .0 .0 .0 .0 .0 .0 .0 .0 .0 .0 .0 .1)) (c .before .match .rest .0 .0 .0 .0 .0 .0 .0 .0 .0 .0 .0 .0 .0 .0 .0 .0 .0 .0 .0 .0 .0 .0 .0 .0 .1)) (c .before .match .rest .0 .0 .0 .0 .0 .0 .0 .0 .0 .0 .0 .0 .0 .0 .0 .0 .0 .0 .0 .0 .0 .0 .0 .1)) (c .before .match .rest .0 .0 .0 .0 .0 .0 .0 .0 .0 .0 .0 .0 .0 .0 .0 .0 .0 .0 .0 .0 .0 .0 .1)) (c .before .match .rest .0 .0 .0 .0 .0 .0 .0 .0 .0 .0 .0 .0 .0 .0 .0 .0 .0 .0 .0 .0 .0 .1)) (c .before .match .rest .0 .0 .0 .0 .0 .0 .0 .0 .0 .0 .0 .0 .0 .0 .0 .0 .0 .0 .0 .0 .1)) (c .before .match .rest .0 .0 .0 .0 .0 .0 .0 .0 .0 .0 .0 .0 .0 .0 .0 .0 .0 .0 .0 .1)) (c .before .match .rest .0 .0 .0 .0 .0 .0 .0 .0 .0 .0 .0 .0 .0 .0 .0 .0 .0 .0 .1)) (c .before .match .rest .0 .0 .0 .0 .0 .0 .0 .0 .0 .0 .0 .0 .0 .0 .0 .0 .0 .1)) (c .before .match .rest .0 .0 .0 .0 .0 .0 .0 .0 .0 .0 .0 .0 .0 .0 .0 .0 .1)) (c .before .match .rest .0 .0 .0 .0 .0 .0 .0 .0 .0 .0 .0 .0 .0 .0 .0 .1)) (c .before .match .rest .0 .0 .0 .0 .0 .0 .0 .0 .0 .0 .0 .0 .0 .0 .1)) (c .before .match .rest .0 .0 .0 .0 .0 .0 .0 .0 .0 .0 .0 .0 .0 .1)) (c .before .match .rest .0 .0 .0 .0 .0 .0 .0 .0 .0 .0 .0 .0 .1)) (c .before .match .rest .0 .0 .0 .0 .0 .0 .0 .0 .0 .0 .0 .1)) (c .before .match .rest .0 .0 .0 .0 .0 .0 .0 .0 .0 .0 .1)) (c .before .match .rest .0 .0 .0 .0 .0 .0 .0 .0 .0 .1)) (c .before .match .rest .0 .0 .0 .0 .0 .0 .0 .0 .1)) (c .before .match .rest .0 .0 .0 .0 .0 .0 .0 .1)) (c .before .match .rest .0 .0 .0 .0 .0 .0 .1)) (c .before .match .rest .0 .0 .0 .0 .0 .1)) (c .before .match .rest .0 .0 .0 .0 .1)) (c .before .match .rest .0 .0 .0 .1)) (c .before .match .rest .0 .0 .1)) (c .before .match .rest .0 .1)) (c .before .match .rest .1))
+unfolding actionAt actions operationOf operations
+returns-32 c = record { acts = λ i p. computing-is _ i _ _ 31 (c .before .before .before .before .match .keys32) p (c .before .before .before .place25 .ensures) (c .before .before .register46 .ensures) (c .before .register47 .ensures) _ (inr (inr (inl refl))) tt tt refl (source-is (view (c .before .before .before .before .before .before .before .before .before .before .args .c) (c .before .before .before .before .before .before .before .before .before .before .args .m) (c .before .before .before .before .before .before .before .before .before .before .args .stack .now) (c .before .before .before .before .before .before .before .before .before .before .args .registers .now) (c .before .before .before .before .before .before .before .before .before .before .args .memory .now) (c .before .before .before .before .before .before .before .before .before .before .args .inputs .now) (c .before .before .before .before .before .before .before .before .before .before .args .room)) i _ _ 31 (c .before .before .before .before .match .keys32) p (c .before .before .before .place25 .ensures) (c .before .before .register46 .ensures) (c .before .register47 .ensures) tt tt tt) (c .compute23 .ensures) }
+
+returns-33 : tie.Need-returns-33
+unfolding actionAt actions operationOf operations
+returns-33 c = record { acts = λ i p. computing-is _ i _ _ 32 (c .before .before .before .before .match .keys33) p (c .before .before .before .place26 .ensures) (c .before .before .register48 .ensures) (c .before .register49 .ensures) _ (inr (inr (inl refl))) tt tt refl (source-is (view (c .before .before .before .before .before .before .before .before .before .before .args .c) (c .before .before .before .before .before .before .before .before .before .before .args .m) (c .before .before .before .before .before .before .before .before .before .before .args .stack .now) (c .before .before .before .before .before .before .before .before .before .before .args .registers .now) (c .before .before .before .before .before .before .before .before .before .before .args .memory .now) (c .before .before .before .before .before .before .before .before .before .before .args .inputs .now) (c .before .before .before .before .before .before .before .before .before .before .args .room)) i _ _ 32 (c .before .before .before .before .match .keys33) p (c .before .before .before .place26 .ensures) (c .before .before .register48 .ensures) (c .before .register49 .ensures) tt tt tt) (c .compute24 .ensures) }
+
+returns-34 : tie.Need-returns-34
+unfolding actionAt actions operationOf operations
+returns-34 c = record { acts = λ i p. computing-is _ i _ _ 33 (c .before .before .before .before .match .keys34) p (c .before .before .before .place27 .ensures) (c .before .before .register50 .ensures) (c .before .register51 .ensures) _ (inr (inr (inl refl))) tt tt refl (source-is (view (c .before .before .before .before .before .before .before .before .before .before .args .c) (c .before .before .before .before .before .before .before .before .before .before .args .m) (c .before .before .before .before .before .before .before .before .before .before .args .stack .now) (c .before .before .before .before .before .before .before .before .before .before .args .registers .now) (c .before .before .before .before .before .before .before .before .before .before .args .memory .now) (c .before .before .before .before .before .before .before .before .before .before .args .inputs .now) (c .before .before .before .before .before .before .before .before .before .before .args .room)) i _ _ 33 (c .before .before .before .before .match .keys34) p (c .before .before .before .place27 .ensures) (c .before .before .register50 .ensures) (c .before .register51 .ensures) tt tt tt) (c .compute25 .ensures) }
+
+returns-35 : tie.Need-returns-35
+unfolding actionAt actions operationOf operations
+returns-35 c = record { acts = λ i p. computing-is _ i _ _ 34 (c .before .before .before .before .match .keys35) p (c .before .before .before .place28 .ensures) (c .before .before .register52 .ensures) (c .before .register53 .ensures) _ (inr (inr (inl refl))) tt tt refl (source-is (view (c .before .before .before .before .before .before .before .before .before .before .args .c) (c .before .before .before .before .before .before .before .before .before .before .args .m) (c .before .before .before .before .before .before .before .before .before .before .args .stack .now) (c .before .before .before .before .before .before .before .before .before .before .args .registers .now) (c .before .before .before .before .before .before .before .before .before .before .args .memory .now) (c .before .before .before .before .before .before .before .before .before .before .args .inputs .now) (c .before .before .before .before .before .before .before .before .before .before .args .room)) i _ _ 34 (c .before .before .before .before .match .keys35) p (c .before .before .before .place28 .ensures) (c .before .before .register52 .ensures) (c .before .register53 .ensures) tt tt tt) (c .compute26 .ensures) }
+
+returns-36 : tie.Need-returns-36
+unfolding actionAt actions operationOf operations
+returns-36 c = record { acts = λ i p. computing-is _ i _ _ 35 (c .before .before .before .before .match .keys36) p (c .before .before .before .place29 .ensures) (c .before .before .register54 .ensures) (c .before .register55 .ensures) _ (inr (inr (inl refl))) tt tt refl (source-is (view (c .before .before .before .before .before .before .before .before .before .before .args .c) (c .before .before .before .before .before .before .before .before .before .before .args .m) (c .before .before .before .before .before .before .before .before .before .before .args .stack .now) (c .before .before .before .before .before .before .before .before .before .before .args .registers .now) (c .before .before .before .before .before .before .before .before .before .before .args .memory .now) (c .before .before .before .before .before .before .before .before .before .before .args .inputs .now) (c .before .before .before .before .before .before .before .before .before .before .args .room)) i _ _ 35 (c .before .before .before .before .match .keys36) p (c .before .before .before .place29 .ensures) (c .before .before .register54 .ensures) (c .before .register55 .ensures) tt tt tt) (c .compute27 .ensures) }
+
+returns-37 : tie.Need-returns-37
+unfolding actionAt actions operationOf operations
+returns-37 c = record { acts = λ i p. computing-is _ i _ _ 36 (c .before .before .before .before .match .keys37) p (c .before .before .before .place30 .ensures) (c .before .before .register56 .ensures) (c .before .register57 .ensures) _ (inr (inr (inr refl))) tt tt (ap Bst (agreed _ _ _ _ _ (c .before .before .before .before .match .keys37) p .number tt)) (source-is (view (c .before .before .before .before .before .before .before .before .before .before .args .c) (c .before .before .before .before .before .before .before .before .before .before .args .m) (c .before .before .before .before .before .before .before .before .before .before .args .stack .now) (c .before .before .before .before .before .before .before .before .before .before .args .registers .now) (c .before .before .before .before .before .before .before .before .before .before .args .memory .now) (c .before .before .before .before .before .before .before .before .before .before .args .inputs .now) (c .before .before .before .before .before .before .before .before .before .before .args .room)) i _ _ 36 (c .before .before .before .before .match .keys37) p (c .before .before .before .place30 .ensures) (c .before .before .register56 .ensures) (c .before .register57 .ensures) tt tt tt) (c .compute28 .ensures) }
+
+returns-38 : tie.Need-returns-38
+unfolding actionAt actions operationOf operations
+returns-38 c = record { acts = λ i p. computing-is _ i _ _ 37 (c .before .before .before .before .match .keys38) p (c .before .before .before .place31 .ensures) (c .before .before .register58 .ensures) (c .before .register59 .ensures) _ (inr (inr (inr refl))) tt tt (ap Bld (agreed _ _ _ _ _ (c .before .before .before .before .match .keys38) p .number tt)) (source-is (view (c .before .before .before .before .before .before .before .before .before .before .args .c) (c .before .before .before .before .before .before .before .before .before .before .args .m) (c .before .before .before .before .before .before .before .before .before .before .args .stack .now) (c .before .before .before .before .before .before .before .before .before .before .args .registers .now) (c .before .before .before .before .before .before .before .before .before .before .args .memory .now) (c .before .before .before .before .before .before .before .before .before .before .args .inputs .now) (c .before .before .before .before .before .before .before .before .before .before .args .room)) i _ _ 37 (c .before .before .before .before .match .keys38) p (c .before .before .before .place31 .ensures) (c .before .before .register58 .ensures) (c .before .register59 .ensures) tt tt tt) (c .compute29 .ensures) }
+
+returns-39 : tie.Need-returns-39
+unfolding actionAt actions operationOf operations
+returns-39 c = record { acts = λ i p. computing-is _ i _ _ 38 (c .before .before .before .before .match .keys39) p (c .before .before .before .place32 .ensures) (c .before .before .register60 .ensures) (c .before .register61 .ensures) _ (inr (inr (inr refl))) tt tt (ap Blds (agreed _ _ _ _ _ (c .before .before .before .before .match .keys39) p .number tt)) (source-is (view (c .before .before .before .before .before .before .before .before .before .before .args .c) (c .before .before .before .before .before .before .before .before .before .before .args .m) (c .before .before .before .before .before .before .before .before .before .before .args .stack .now) (c .before .before .before .before .before .before .before .before .before .before .args .registers .now) (c .before .before .before .before .before .before .before .before .before .before .args .memory .now) (c .before .before .before .before .before .before .before .before .before .before .args .inputs .now) (c .before .before .before .before .before .before .before .before .before .before .args .room)) i _ _ 38 (c .before .before .before .before .match .keys39) p (c .before .before .before .place32 .ensures) (c .before .before .register60 .ensures) (c .before .register61 .ensures) tt tt tt) (c .compute30 .ensures) }
+
+returns-40 : tie.Need-returns-40
+unfolding actionAt actions
+returns-40 c = record { acts = λ i p. load-index-is _ i _ _ 39 (c .before .match .keys40) p refl refl refl refl tt tt tt (land-size _ _ (c .before .before .before .before .before .before .before .pre .0 .lawful)) (land-size _ _ (c .before .before .before .before .before .before .before .pre .0 .lawful)) (c .load-index .ensures) }
+
+returns-41 : tie.Need-returns-41
+unfolding actionAt actions
+returns-41 c = record { acts = λ i p. index-store-is _ i _ _ 40 (c .before .before .before .before .match .keys41) p refl (c .before .before .before .register62 .ensures) refl refl tt tt (c .before .cell .ensures) (c .index-store .ensures) }
+
+returns-42 : tie.Need-returns-42
+unfolding actionAt actions
+returns-42 c = record { acts = λ i p. index-load-is _ i _ _ 41 (c .before .before .before .match .keys42) p refl refl (c .before .before .register63 .ensures) refl tt tt (c .index-load .ensures) }
+
+returns-43 : tie.Need-returns-43
+unfolding actionAt actions
+returns-43 c = record { acts = λ i p. move-is _ i _ _ 42 (c .before .before .before .before .match .keys43) p (c .before .before .before .place33 .ensures) refl (c .before .before .register64 .ensures) refl tt tt (land-size _ _ (c .before .before .before .before .before .before .before .before .before .before .pre .0 .lawful)) (c .before .moved-value .ensures) (c .assign .ensures) }
+
+returns-44 : tie.Need-returns-44
+unfolding actionAt actions
+returns-44 c = record { acts = λ i p. constant-is _ i _ _ 43 (c .before .before .before .match .keys44) p (c .before .before .place34 .ensures) refl refl refl tt (immediate-is (view (c .before .before .before .before .before .before .before .before .before .args .c) (c .before .before .before .before .before .before .before .before .before .args .m) (c .before .before .before .before .before .before .before .before .before .args .stack .now) (c .before .before .before .before .before .before .before .before .before .args .registers .now) (c .before .before .before .before .before .before .before .before .before .args .memory .now) (c .before .before .before .before .before .before .before .before .before .args .inputs .now) (c .before .before .before .before .before .before .before .before .before .args .room)) i _ _ 43 (c .before .before .before .match .keys44) p (c .before .before .place34 .ensures) refl refl tt tt (c .before .immediate-in13 .ensures)) (c .assign2 .ensures) }
+
+returns-45 : tie.Need-returns-45
+unfolding actionAt actions
+returns-45 c = record { acts = λ i p. load-register-is _ i _ _ 44 (c .before .before .before .match .keys45) p (c .before .before .place35 .ensures) refl (c .before .register65 .ensures) refl tt tt (c .load .ensures) }
+
+returns-46 : tie.Need-returns-46
+unfolding actionAt actions
+returns-46 c = record { acts = λ i p. load-direct-is _ i _ _ 45 (c .before .before .before .match .keys46) p (c .before .before .place36 .ensures) refl refl refl tt tt (c .before .value-at .ensures) (c .assign3 .ensures) }
+
+returns-47 : tie.Need-returns-47
+unfolding actionAt actions
+returns-47 c = record { acts = λ i p. store-register-is _ i _ _ 46 (c .before .before .before .match .keys47) p refl (c .before .before .register66 .ensures) (c .before .register67 .ensures) refl tt tt (c .store .ensures) }
+
+returns-48 : tie.Need-returns-48
+unfolding actionAt actions
+returns-48 c = record { acts = λ i p. store-direct-is _ i _ _ 47 (c .before .before .match .keys48) p refl (c .before .register68 .ensures) refl refl tt tt (c .store-direct .ensures) }
+
+returns-49 : tie.Need-returns-49
+unfolding actionAt actions
+returns-49 c = record { acts = λ i p. port-read-is _ i _ _ 48 (c .before .before .before .match .keys49) p (c .before .before .place37 .ensures) refl (c .before .register69 .ensures) refl tt tt (c .port-read .ensures) }
+
+returns-50 : tie.Need-returns-50
+unfolding actionAt actions
+returns-50 c = record { acts = λ i p. port-modify-is _ i _ _ 49 (c .before .before .before .match .keys50) p (c .before .before .place38 .ensures) refl (c .before .register70 .ensures) refl tt tt (c .port-modify .ensures) }
+
+returns-51 : tie.Need-returns-51
+unfolding actionAt actions
+returns-51 c = record { acts = λ i p. port-write-is _ i _ _ 50 (c .before .before .before .match .keys51) p refl (c .before .before .register71 .ensures) (c .before .register72 .ensures) refl tt (source-is (view (c .before .before .before .before .before .before .before .before .before .args .c) (c .before .before .before .before .before .before .before .before .before .args .m) (c .before .before .before .before .before .before .before .before .before .args .stack .now) (c .before .before .before .before .before .before .before .before .before .args .registers .now) (c .before .before .before .before .before .before .before .before .before .args .memory .now) (c .before .before .before .before .before .before .before .before .before .args .inputs .now) (c .before .before .before .before .before .before .before .before .before .args .room)) i _ _ 50 (c .before .before .before .match .keys51) p refl (c .before .before .register71 .ensures) (c .before .register72 .ensures) tt tt tt) (c .port-write .ensures) }
+
+returns-52 : tie.Need-returns-52
+unfolding actionAt actions
+returns-52 c = record { acts = λ i p. port-write-is _ i _ _ 51 (c .before .before .before .match .keys52) p refl (c .before .before .register73 .ensures) refl refl tt (immediate-is (view (c .before .before .before .before .before .before .before .before .before .args .c) (c .before .before .before .before .before .before .before .before .before .args .m) (c .before .before .before .before .before .before .before .before .before .args .stack .now) (c .before .before .before .before .before .before .before .before .before .args .registers .now) (c .before .before .before .before .before .before .before .before .before .args .memory .now) (c .before .before .before .before .before .before .before .before .before .args .inputs .now) (c .before .before .before .before .before .before .before .before .before .args .room)) i _ _ 51 (c .before .before .before .match .keys52) p refl (c .before .before .register73 .ensures) refl tt tt (c .before .immediate-in14 .ensures)) (c .port-write2 .ensures) }
+
+returns-53 : tie.Need-returns-53
+unfolding actionAt actions
+returns-53 c = record { acts = λ i p. jump-is _ i _ _ 52 (c .before .match .keys53) p refl refl refl refl tt (c .jump .ensures) }
+
+returns-54 : tie.Need-returns-54
+unfolding actionAt actions
+returns-54 c = record { acts = λ i p. branch-is _ i _ _ 53 (c .before .match .keys54) p refl refl refl refl tt (c .branch .ensures) }
+
+returns-55 : tie.Need-returns-55
+unfolding actionAt actions
+returns-55 c = record { acts = λ i p. jump-register-is _ i _ _ 54 (c .before .before .match .keys55) p refl (c .before .register74 .ensures) refl refl tt (c .jump2 .ensures) }
+
+returns-56 : tie.Need-returns-56
+unfolding actionAt actions
+returns-56 c = record { acts = λ i p. branch-register-is _ i _ _ 55 (c .before .before .match .keys56) p refl (c .before .register75 .ensures) refl refl tt (c .branch2 .ensures) }
+
+returns-57 : tie.Need-returns-57
+unfolding actionAt actions
+returns-57 c = record { acts = λ i p. call-is _ i _ _ 56 (c .before .match .keys57) p refl refl refl refl tt (c .before .before .before .before .before .before .before .pre .3) (c .call .ensures) }
+
+returns-58 : tie.Need-returns-58
+unfolding actionAt actions
+returns-58 c = record { acts = λ i p. call-register-is _ i _ _ 57 (c .before .before .match .keys58) p refl (c .before .register76 .ensures) refl refl tt (c .before .before .before .before .before .before .before .before .pre .3) (c .call2 .ensures) }
+
+returns-59 : tie.Need-returns-59
+unfolding actionAt actions
+returns-59 c = record { acts = λ i p. return-constant-is _ i _ _ 58 (c .before .before .match .keys59) p (c .before .place39 .ensures) refl refl refl tt tt (c .ret-constant .ensures) }
+
+returns-60 : tie.Need-returns-60
+unfolding actionAt actions
+returns-60 c = record { acts = λ i p. enter-bank-is _ i _ _ 59 (c .before .match .keys60) p refl refl refl refl tt tt (c .enter-bank .ensures) }
+
+returns-61 : tie.Need-returns-61
+unfolding actionAt actions
+returns-61 c = record { acts = λ i p. return-is _ i _ _ 60 (c .before .match .keys61) p refl refl refl refl (c .ret .ensures) }
+
+returns-62 : tie.Need-returns-62
+unfolding actionAt actions
+returns-62 c = record { acts = λ i p. leave-bank-is _ i _ _ 61 (c .before .before .match .keys62) p refl refl refl refl (c .before .cell2 .ensures) (c .leave-bank .ensures) }
+
+returns-63 : tie.Need-returns-63
+unfolding actionAt actions
+returns-63 c = record { acts = λ i p. leave-special-is _ i _ _ 62 (c .before .match .keys63) p refl refl refl refl (c .leave-special .ensures) }
+
+returns-64 : tie.Need-returns-64
+unfolding actionAt actions
+returns-64 c = record { acts = λ i p. enter-special-is _ i _ _ 63 (c .before .match .keys64) p refl refl refl refl (c .enter-special .ensures) }
+
+returns-65 : tie.Need-returns-65
+returns-65 c = record { acts = λ i p. unsupported-is _ i _ _ _ refl p refl refl refl (past-actions _ (above 63 _ (above 62 _ (above 61 _ (above 60 _ (above 59 _ (above 58 _ (above 57 _ (above 56 _ (above 55 _ (above 54 _ (above 53 _ (above 52 _ (above 51 _ (above 50 _ (above 49 _ (above 48 _ (above 47 _ (above 46 _ (above 45 _ (above 44 _ (above 43 _ (above 42 _ (above 41 _ (above 40 _ (above 39 _ (above 38 _ (above 37 _ (above 36 _ (above 35 _ (above 34 _ (above 33 _ (above 32 _ (above 31 _ (above 30 _ (above 29 _ (above 28 _ (above 27 _ (above 26 _ (above 25 _ (above 24 _ (above 23 _ (above 22 _ (above 21 _ (above 20 _ (above 19 _ (above 18 _ (above 17 _ (above 16 _ (above 15 _ (above 14 _ (above 13 _ (above 12 _ (above 11 _ (above 10 _ (above 9 _ (above 8 _ (above 7 _ (above 6 _ (above 5 _ (above 4 _ (above 3 _ (above 2 _ (above 1 _ (above 0 _ (omega arith) (c .before .match .rest .0 .0 .0 .0 .0 .0 .0 .0 .0 .0 .0 .0 .0 .0 .0 .0 .0 .0 .0 .0 .0 .0 .0 .0 .0 .0 .0 .0 .0 .0 .0 .0 .0 .0 .0 .0 .0 .0 .0 .0 .0 .0 .0 .0 .0 .0 .0 .0 .0 .0 .0 .0 .0 .0 .0 .0 .0 .0 .0 .0 .0 .0 .0 .1)) (c .before .match .rest .0 .0 .0 .0 .0 .0 .0 .0 .0 .0 .0 .0 .0 .0 .0 .0 .0 .0 .0 .0 .0 .0 .0 .0 .0 .0 .0 .0 .0 .0 .0 .0 .0 .0 .0 .0 .0 .0 .0 .0 .0 .0 .0 .0 .0 .0 .0 .0 .0 .0 .0 .0 .0 .0 .0 .0 .0 .0 .0 .0 .0 .0 .1)) (c .before .match .rest .0 .0 .0 .0 .0 .0 .0 .0 .0 .0 .0 .0 .0 .0 .0 .0 .0 .0 .0 .0 .0 .0 .0 .0 .0 .0 .0 .0 .0 .0 .0 .0 .0 .0 .0 .0 .0 .0 .0 .0 .0 .0 .0 .0 .0 .0 .0 .0 .0 .0 .0 .0 .0 .0 .0 .0 .0 .0 .0 .0 .0 .1)) (c .before .match .rest .0 .0 .0 .0 .0 .0 .0 .0 .0 .0 .0 .0 .0 .0 .0 .0 .0 .0 .0 .0 .0 .0 .0 .0 .0 .0 .0 .0 .0 .0 .0 .0 .0 .0 .0 .0 .0 .0 .0 .0 .0 .0 .0 .0 .0 .0 .0 .0 .0 .0 .0 .0 .0 .0 .0 .0 .0 .0 .0 .0 .1)) (c .before .match .rest .0 .0 .0 .0 .0 .0 .0 .0 .0 .0 .0 .0 .0 .0 .0 .0 .0 .0 .0 .0 .0 .0 .0 .0 .0 .0 .0 .0 .0 .0 .0 .0 .0 .0 .0 .0 .0 .0 .0 .0 .0 .0 .0 .0 .0 .0 .0 .0 .0 .0 .0 .0 .0 .0 .0 .0 .0 .0 .0 .1)) (c .before .match .rest .0 .0 .0 .0 .0 .0 .0 .0 .0 .0 .0 .0 .0 .0 .0 .0 .0 .0 .0 .0 .0 .0 .0 .0 .0 .0 .0 .0 .0 .0 .0 .0 .0 .0 .0 .0 .0 .0 .0 .0 .0 .0 .0 .0 .0 .0 .0 .0 .0 .0 .0 .0 .0 .0 .0 .0 .0 .0 .1)) (c .before .match .rest .0 .0 .0 .0 .0 .0 .0 .0 .0 .0 .0 .0 .0 .0 .0 .0 .0 .0 .0 .0 .0 .0 .0 .0 .0 .0 .0 .0 .0 .0 .0 .0 .0 .0 .0 .0 .0 .0 .0 .0 .0 .0 .0 .0 .0 .0 .0 .0 .0 .0 .0 .0 .0 .0 .0 .0 .0 .1)) (c .before .match .rest .0 .0 .0 .0 .0 .0 .0 .0 .0 .0 .0 .0 .0 .0 .0 .0 .0 .0 .0 .0 .0 .0 .0 .0 .0 .0 .0 .0 .0 .0 .0 .0 .0 .0 .0 .0 .0 .0 .0 .0 .0 .0 .0 .0 .0 .0 .0 .0 .0 .0 .0 .0 .0 .0 .0 .0 .1)) (c .before .match .rest .0 .0 .0 .0 .0 .0 .0 .0 .0 .0 .0 .0 .0 .0 .0 .0 .0 .0 .0 .0 .0 .0 .0 .0 .0 .0 .0 .0 .0 .0 .0 .0 .0 .0 .0 .0 .0 .0 .0 .0 .0 .0 .0 .0 .0 .0 .0 .0 .0 .0 .0 .0 .0 .0 .0 .1)) (c .before .match .rest .0 .0 .0 .0 .0 .0 .0 .0 .0 .0 .0 .0 .0 .0 .0 .0 .0 .0 .0 .0 .0 .0 .0 .0 .0 .0 .0 .0 .0 .0 .0 .0 .0 .0 .0 .0 .0 .0 .0 .0 .0 .0 .0 .0 .0 .0 .0 .0 .0 .0 .0 .0 .0 .0 .1)) (c .before .match .rest .0 .0 .0 .0 .0 .0 .0 .0 .0 .0 .0 .0 .0 .0 .0 .0 .0 .0 .0 .0 .0 .0 .0 .0 .0 .0 .0 .0 .0 .0 .0 .0 .0 .0 .0 .0 .0 .0 .0 .0 .0 .0 .0 .0 .0 .0 .0 .0 .0 .0 .0 .0 .0 .1)) (c .before .match .rest .0 .0 .0 .0 .0 .0 .0 .0 .0 .0 .0 .0 .0 .0 .0 .0 .0 .0 .0 .0 .0 .0 .0 .0 .0 .0 .0 .0 .0 .0 .0 .0 .0 .0 .0 .0 .0 .0 .0 .0 .0 .0 .0 .0 .0 .0 .0 .0 .0 .0 .0 .0 .1)) (c .before .match .rest .0 .0 .0 .0 .0 .0 .0 .0 .0 .0 .0 .0 .0 .0 .0 .0 .0 .0 .0 .0 .0 .0 .0 .0 .0 .0 .0 .0 .0 .0 .0 .0 .0 .0 .0 .0 .0 .0 .0 .0 .0 .0 .0 .0 .0 .0 .0 .0 .0 .0 .0 .1)) (c .before .match .rest .0 .0 .0 .0 .0 .0 .0 .0 .0 .0 .0 .0 .0 .0 .0 .0 .0 .0 .0 .0 .0 .0 .0 .0 .0 .0 .0 .0 .0 .0 .0 .0 .0 .0 .0 .0 .0 .0 .0 .0 .0 .0 .0 .0 .0 .0 .0 .0 .0 .0 .1)) (c .before .match .rest .0 .0 .0 .0 .0 .0 .0 .0 .0 .0 .0 .0 .0 .0 .0 .0 .0 .0 .0 .0 .0 .0 .0 .0 .0 .0 .0 .0 .0 .0 .0 .0 .0 .0 .0 .0 .0 .0 .0 .0 .0 .0 .0 .0 .0 .0 .0 .0 .0 .1)) (c .before .match .rest .0 .0 .0 .0 .0 .0 .0 .0 .0 .0 .0 .0 .0 .0 .0 .0 .0 .0 .0 .0 .0 .0 .0 .0 .0 .0 .0 .0 .0 .0 .0 .0 .0 .0 .0 .0 .0 .0 .0 .0 .0 .0 .0 .0 .0 .0 .0 .0 .1)) (c .before .match .rest .0 .0 .0 .0 .0 .0 .0 .0 .0 .0 .0 .0 .0 .0 .0 .0 .0 .0 .0 .0 .0 .0 .0 .0 .0 .0 .0 .0 .0 .0 .0 .0 .0 .0 .0 .0 .0 .0 .0 .0 .0 .0 .0 .0 .0 .0 .0 .1)) (c .before .match .rest .0 .0 .0 .0 .0 .0 .0 .0 .0 .0 .0 .0 .0 .0 .0 .0 .0 .0 .0 .0 .0 .0 .0 .0 .0 .0 .0 .0 .0 .0 .0 .0 .0 .0 .0 .0 .0 .0 .0 .0 .0 .0 .0 .0 .0 .0 .1)) (c .before .match .rest .0 .0 .0 .0 .0 .0 .0 .0 .0 .0 .0 .0 .0 .0 .0 .0 .0 .0 .0 .0 .0 .0 .0 .0 .0 .0 .0 .0 .0 .0 .0 .0 .0 .0 .0 .0 .0 .0 .0 .0 .0 .0 .0 .0 .0 .1)) (c .before .match .rest .0 .0 .0 .0 .0 .0 .0 .0 .0 .0 .0 .0 .0 .0 .0 .0 .0 .0 .0 .0 .0 .0 .0 .0 .0 .0 .0 .0 .0 .0 .0 .0 .0 .0 .0 .0 .0 .0 .0 .0 .0 .0 .0 .0 .1)) (c .before .match .rest .0 .0 .0 .0 .0 .0 .0 .0 .0 .0 .0 .0 .0 .0 .0 .0 .0 .0 .0 .0 .0 .0 .0 .0 .0 .0 .0 .0 .0 .0 .0 .0 .0 .0 .0 .0 .0 .0 .0 .0 .0 .0 .0 .1)) (c .before .match .rest .0 .0 .0 .0 .0 .0 .0 .0 .0 .0 .0 .0 .0 .0 .0 .0 .0 .0 .0 .0 .0 .0 .0 .0 .0 .0 .0 .0 .0 .0 .0 .0 .0 .0 .0 .0 .0 .0 .0 .0 .0 .0 .1)) (c .before .match .rest .0 .0 .0 .0 .0 .0 .0 .0 .0 .0 .0 .0 .0 .0 .0 .0 .0 .0 .0 .0 .0 .0 .0 .0 .0 .0 .0 .0 .0 .0 .0 .0 .0 .0 .0 .0 .0 .0 .0 .0 .0 .1)) (c .before .match .rest .0 .0 .0 .0 .0 .0 .0 .0 .0 .0 .0 .0 .0 .0 .0 .0 .0 .0 .0 .0 .0 .0 .0 .0 .0 .0 .0 .0 .0 .0 .0 .0 .0 .0 .0 .0 .0 .0 .0 .0 .1)) (c .before .match .rest .0 .0 .0 .0 .0 .0 .0 .0 .0 .0 .0 .0 .0 .0 .0 .0 .0 .0 .0 .0 .0 .0 .0 .0 .0 .0 .0 .0 .0 .0 .0 .0 .0 .0 .0 .0 .0 .0 .0 .1)) (c .before .match .rest .0 .0 .0 .0 .0 .0 .0 .0 .0 .0 .0 .0 .0 .0 .0 .0 .0 .0 .0 .0 .0 .0 .0 .0 .0 .0 .0 .0 .0 .0 .0 .0 .0 .0 .0 .0 .0 .0 .1)) (c .before .match .rest .0 .0 .0 .0 .0 .0 .0 .0 .0 .0 .0 .0 .0 .0 .0 .0 .0 .0 .0 .0 .0 .0 .0 .0 .0 .0 .0 .0 .0 .0 .0 .0 .0 .0 .0 .0 .0 .1)) (c .before .match .rest .0 .0 .0 .0 .0 .0 .0 .0 .0 .0 .0 .0 .0 .0 .0 .0 .0 .0 .0 .0 .0 .0 .0 .0 .0 .0 .0 .0 .0 .0 .0 .0 .0 .0 .0 .0 .1)) (c .before .match .rest .0 .0 .0 .0 .0 .0 .0 .0 .0 .0 .0 .0 .0 .0 .0 .0 .0 .0 .0 .0 .0 .0 .0 .0 .0 .0 .0 .0 .0 .0 .0 .0 .0 .0 .0 .1)) (c .before .match .rest .0 .0 .0 .0 .0 .0 .0 .0 .0 .0 .0 .0 .0 .0 .0 .0 .0 .0 .0 .0 .0 .0 .0 .0 .0 .0 .0 .0 .0 .0 .0 .0 .0 .0 .1)) (c .before .match .rest .0 .0 .0 .0 .0 .0 .0 .0 .0 .0 .0 .0 .0 .0 .0 .0 .0 .0 .0 .0 .0 .0 .0 .0 .0 .0 .0 .0 .0 .0 .0 .0 .0 .1)) (c .before .match .rest .0 .0 .0 .0 .0 .0 .0 .0 .0 .0 .0 .0 .0 .0 .0 .0 .0 .0 .0 .0 .0 .0 .0 .0 .0 .0 .0 .0 .0 .0 .0 .0 .1)) (c .before .match .rest .0 .0 .0 .0 .0 .0 .0 .0 .0 .0 .0 .0 .0 .0 .0 .0 .0 .0 .0 .0 .0 .0 .0 .0 .0 .0 .0 .0 .0 .0 .0 .1)) (c .before .match .rest .0 .0 .0 .0 .0 .0 .0 .0 .0 .0 .0 .0 .0 .0 .0 .0 .0 .0 .0 .0 .0 .0 .0 .0 .0 .0 .0 .0 .0 .0 .1)) (c .before .match .rest .0 .0 .0 .0 .0 .0 .0 .0 .0 .0 .0 .0 .0 .0 .0 .0 .0 .0 .0 .0 .0 .0 .0 .0 .0 .0 .0 .0 .0 .1)) (c .before .match .rest .0 .0 .0 .0 .0 .0 .0 .0 .0 .0 .0 .0 .0 .0 .0 .0 .0 .0 .0 .0 .0 .0 .0 .0 .0 .0 .0 .0 .1)) (c .before .match .rest .0 .0 .0 .0 .0 .0 .0 .0 .0 .0 .0 .0 .0 .0 .0 .0 .0 .0 .0 .0 .0 .0 .0 .0 .0 .0 .0 .1)) (c .before .match .rest .0 .0 .0 .0 .0 .0 .0 .0 .0 .0 .0 .0 .0 .0 .0 .0 .0 .0 .0 .0 .0 .0 .0 .0 .0 .0 .1)) (c .before .match .rest .0 .0 .0 .0 .0 .0 .0 .0 .0 .0 .0 .0 .0 .0 .0 .0 .0 .0 .0 .0 .0 .0 .0 .0 .0 .1)) (c .before .match .rest .0 .0 .0 .0 .0 .0 .0 .0 .0 .0 .0 .0 .0 .0 .0 .0 .0 .0 .0 .0 .0 .0 .0 .0 .1)) (c .before .match .rest .0 .0 .0 .0 .0 .0 .0 .0 .0 .0 .0 .0 .0 .0 .0 .0 .0 .0 .0 .0 .0 .0 .0 .1)) (c .before .match .rest .0 .0 .0 .0 .0 .0 .0 .0 .0 .0 .0 .0 .0 .0 .0 .0 .0 .0 .0 .0 .0 .0 .1)) (c .before .match .rest .0 .0 .0 .0 .0 .0 .0 .0 .0 .0 .0 .0 .0 .0 .0 .0 .0 .0 .0 .0 .0 .1)) (c .before .match .rest .0 .0 .0 .0 .0 .0 .0 .0 .0 .0 .0 .0 .0 .0 .0 .0 .0 .0 .0 .0 .1)) (c .before .match .rest .0 .0 .0 .0 .0 .0 .0 .0 .0 .0 .0 .0 .0 .0 .0 .0 .0 .0 .0 .1)) (c .before .match .rest .0 .0 .0 .0 .0 .0 .0 .0 .0 .0 .0 .0 .0 .0 .0 .0 .0 .0 .1)) (c .before .match .rest .0 .0 .0 .0 .0 .0 .0 .0 .0 .0 .0 .0 .0 .0 .0 .0 .0 .1)) (c .before .match .rest .0 .0 .0 .0 .0 .0 .0 .0 .0 .0 .0 .0 .0 .0 .0 .0 .1)) (c .before .match .rest .0 .0 .0 .0 .0 .0 .0 .0 .0 .0 .0 .0 .0 .0 .0 .1)) (c .before .match .rest .0 .0 .0 .0 .0 .0 .0 .0 .0 .0 .0 .0 .0 .0 .1)) (c .before .match .rest .0 .0 .0 .0 .0 .0 .0 .0 .0 .0 .0 .0 .0 .1)) (c .before .match .rest .0 .0 .0 .0 .0 .0 .0 .0 .0 .0 .0 .0 .1)) (c .before .match .rest .0 .0 .0 .0 .0 .0 .0 .0 .0 .0 .0 .1)) (c .before .match .rest .0 .0 .0 .0 .0 .0 .0 .0 .0 .0 .1)) (c .before .match .rest .0 .0 .0 .0 .0 .0 .0 .0 .0 .1)) (c .before .match .rest .0 .0 .0 .0 .0 .0 .0 .0 .1)) (c .before .match .rest .0 .0 .0 .0 .0 .0 .0 .1)) (c .before .match .rest .0 .0 .0 .0 .0 .0 .1)) (c .before .match .rest .0 .0 .0 .0 .0 .1)) (c .before .match .rest .0 .0 .0 .0 .1)) (c .before .match .rest .0 .0 .0 .1)) (c .before .match .rest .0 .0 .1)) (c .before .match .rest .0 .1)) (c .before .match .rest .1))) (c .skip2 .ensures) }
 
 pub exec-spec : {M : Type 1} → statement M
 exec-spec =
     tie.close
-    (tie.spec (λ c κs. search needs) (λ c κs. search needs) (λ c. search needs) (λ c. search needs) (λ c κs. search needs) (λ c κs. search needs) (λ c κs. search needs) (λ c κs. search needs) (λ c κs. search needs) (λ c κs. search needs) (λ c κs. search needs) (λ c κs. search needs) (λ c κs. search needs) (λ c κs. search needs) (λ c κs. search needs) (λ c κs. search needs) (λ c κs. search needs) (λ c κs. search needs) (λ c κs. search needs) (λ c κs. search needs) (λ c κs. search needs) (λ c κs. search needs) (λ c κs. search needs) (λ c. search needs) (λ c κs. search needs) (λ c κs. search needs) (λ c. search needs) (λ c κs. search needs) (λ c κs. search needs) (λ c κs. search needs) (λ c κs. search needs) (λ c κs. search needs) (λ c κs. search needs) (λ c. search needs) (λ c κs. search needs) (λ c κs. search needs) (λ c κs. search needs) (λ c κs. search needs) (λ c κs. search needs) (λ c κs. search needs) (λ c κs. search needs) (λ c κs. search needs) (λ c. search needs) (λ c κs. search needs) (λ c. search needs) (λ c κs. search needs) (λ c. search needs) (λ c κs. search needs) (λ c. search needs) (λ c κs. search needs) (λ c. search needs) (λ c κs. search needs) (λ c. search needs) (λ c κs. search needs) (λ c κs. search needs) (λ c κs. search needs) (λ c κs. search needs) (λ c κs. search needs) (λ c κs. search needs) (λ c κs. search needs) (λ c κs. search needs) (λ c κs. search needs) returns returns-2 returns-3 returns-4 returns-5 returns-6 returns-7 returns-8 returns-9 returns-10 returns-11 returns-12 returns-13 returns-14 returns-15 returns-16 returns-17 returns-18 returns-19 returns-20 returns-21 returns-22 returns-23 returns-24 returns-25 returns-26 returns-27 returns-28 returns-29 returns-30 returns-31 returns-32)
+    (tie.spec sub-last (λ c κs. search needs) (λ c κs. search needs) (λ c κs. search needs) (λ c κs. search needs) (λ c κs. search needs) (λ c κs. search needs) (λ c κs. search needs) (λ c κs. search needs) (λ c κs. search needs) (λ c κs. search needs) (λ c κs. search needs) (λ c κs. search needs) (λ c κs. search needs) (λ c κs. search needs) (λ c κs. search needs) (λ c κs. search needs) (λ c κs. search needs) (λ c κs. search needs) (λ c κs. search needs) (λ c κs. search needs) (λ c κs. search needs) (λ c κs. search needs) (λ c κs. search needs) (λ c κs. search needs) (λ c κs. search needs) (λ c κs. search needs) (λ c κs. search needs) (λ c κs. search needs) (λ c κs. search needs) (λ c κs. search needs) (λ c κs. search needs) (λ c κs. search needs) (λ c κs. search needs) (λ c κs. search needs) (λ c κs. search needs) (λ c κs. search needs) (λ c κs. search needs) (λ c κs. search needs) (λ c κs. search needs) (λ c κs. search needs) (λ c κs. search needs) (λ c κs. search needs) (λ c κs. search needs) (λ c κs. search needs) (λ c κs. search needs) (λ c κs. search needs) (λ c κs. search needs) (λ c κs. search needs) (λ c κs. search needs) (λ c κs. search needs) (λ c κs. search needs) (λ c κs. search needs) (λ c κs. search needs) (λ c κs. search needs) (λ c κs. search needs) (λ c κs. search needs) (λ c κs. search needs) (λ c κs. search needs) (λ c κs. search needs) (λ c κs. search needs) (λ c κs. search needs) (λ c κs. search needs) (λ c κs. search needs) (λ c κs. search needs) (λ c κs. search needs) (λ c κs. search needs) (λ c κs. search needs) (λ c κs. search needs) (λ c κs. search needs) (λ c κs. search needs) (λ c κs. search needs) (λ c κs. search needs) (λ c κs. search needs) (λ c κs. search needs) (λ c κs. search needs) (λ c κs. search needs) (λ c κs. search needs) (λ c κs. search needs) (λ c κs. search needs) (λ c κs. search needs) (λ c κs. search needs) (λ c κs. search needs) (λ c κs. search needs) (λ c κs. search needs) (λ c κs. search needs) (λ c κs. search needs) (λ c κs. search needs) (λ c κs. search needs) (λ c κs. search needs) (λ c κs. search needs) (λ c κs. search needs) (λ c κs. search needs) (λ c κs. search needs) (λ c κs. search needs) (λ c κs. search needs) (λ c κs. search needs) (λ c κs. search needs) (λ c κs. search needs) (λ c κs. search needs) (λ c κs. search needs) (λ c κs. search needs) (λ c κs. search needs) (λ c κs. search needs) (λ c κs. search needs) (λ c κs. search needs) (λ c κs. search needs) (λ c κs. search needs) (λ c κs. search needs) (λ c κs. search needs) (λ c κs. search needs) (λ c κs. search needs) (λ c κs. search needs) (λ c κs. search needs) (λ c κs. search needs) (λ c κs. search needs) (λ c κs. search needs) (λ c κs. search needs) (λ c κs. search needs) (λ c κs. search needs) (λ c κs. search needs) (λ c κs. search needs) (λ c κs. search needs) (λ c κs. search needs) (λ c κs. search needs) (λ c κs. search needs) (λ c κs. search needs) (λ c κs. search needs) (λ c κs. search needs) (λ c κs. search needs) (λ c κs. search needs) (λ c κs. search needs) (λ c κs. search needs) (λ c κs. search needs) (λ c κs. search needs) (λ c κs. search needs) (λ c κs. search needs) (λ c κs. search needs) (λ c κs. search needs) (λ c κs. search needs) (λ c κs. search needs) (λ c κs. search needs) (λ c κs. search needs) (λ c κs. search needs) (λ c κs. search needs) (λ c κs. search needs) (λ c κs. search needs) (λ c. search needs) cell-requires (λ c κs. search needs) (λ c κs. search needs) (λ c. search needs) (λ c κs. search needs) (λ c κs. search needs) (λ c κs. search needs) (λ c κs. search needs) (λ c κs. search needs) (λ c κs. search needs) (λ c κs. search needs) (λ c κs. search needs) (λ c κs. search needs) (λ c κs. search needs) (λ c κs. search needs) (λ c κs. search needs) (λ c. search needs) (λ c κs. search needs) (λ c κs. search needs) (λ c κs. search needs) (λ c κs. search needs) (λ c κs. search needs) (λ c κs. search needs) (λ c κs. search needs) (λ c κs. search needs) (λ c κs. search needs) (λ c κs. search needs) (λ c κs. search needs) (λ c κs. search needs) (λ c κs. search needs) (λ c κs. search needs) (λ c κs. search needs) (λ c κs. search needs) (λ c κs. search needs) (λ c κs. search needs) (λ c κs. search needs) (λ c. search needs) (λ c κs. search needs) (λ c. search needs) (λ c κs. search needs) (λ c κs. search needs) (λ c. search needs) (λ c κs. search needs) (λ c κs. search needs) (λ c. search needs) (λ c κs. search needs) (λ c. search needs) (λ c κs. search needs) (λ c κs. search needs) (λ c. search needs) (λ c κs. search needs) (λ c κs. search needs) (λ c κs. search needs) (λ c κs. search needs) (λ c κs. search needs) cell-requires-2 (λ c κs. search needs) (λ c κs. search needs) (λ c κs. search needs) (λ c κs. search needs) returns returns-2 returns-3 returns-4 returns-5 returns-6 returns-7 returns-8 returns-9 returns-10 returns-11 returns-12 returns-13 returns-14 returns-15 returns-16 returns-17 returns-18 returns-19 returns-20 returns-21 returns-22 returns-23 returns-24 returns-25 returns-26 returns-27 returns-28 returns-29 returns-30 returns-31 returns-32 returns-33 returns-34 returns-35 returns-36 returns-37 returns-38 returns-39 returns-40 returns-41 returns-42 returns-43 returns-44 returns-45 returns-46 returns-47 returns-48 returns-49 returns-50 returns-51 returns-52 returns-53 returns-54 returns-55 returns-56 returns-57 returns-58 returns-59 returns-60 returns-61 returns-62 returns-63 returns-64 returns-65)

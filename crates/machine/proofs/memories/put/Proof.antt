@@ -1,23 +1,23 @@
 -- `machine::memories::put` meets its contract. Assumes nothing.
-use Rattle.laws.specs.Choice.{pick}
-use mathlib.Core.Path.{sym}
-use lib.Seq.{set-out}
+use Rattle.laws.specs.Choice.{pick, true-is}
 use Rattle.state.specs.Step.{putOf}
 use borrow.Author.Needs.{needs}
 use Rattle.machine.proofs.memories.put.Statement.{statement}
 use Rattle.machine.proofs.memories.put.Tie as tie
 
+mul-xs : tie.Need-mul-xs
+mul-xs c = let g = c .before .pre .cell (true-is _ (c .if1 .taken)) in search needs
+
+slice-write-xs : tie.Need-slice-write-xs
+slice-write-xs c = c .before .pre .cell (true-is _ (c .if1 .taken))
+
 returns : tie.Need-returns
 unfolding putOf pick
-returns c = rw (c .before .if1 .taken)
+returns c = rw (c .if1 .taken)
 
 returns-2 : tie.Need-returns-2
 unfolding putOf pick
-returns-2 c = rw (c .before .if1 .taken) (sym (set-out _ _ _ (c .if2 .left)))
-
-returns-3 : tie.Need-returns-3
-unfolding putOf pick
-returns-3 c = rw (c .if1 .left)
+returns-2 c = rw (c .if1 .left)
 
 pub put-spec : {M : Type 1} → statement M
-put-spec = tie.close (tie.spec (λ c. search needs) (λ c. search needs) (λ c. search needs) returns returns-2 returns-3)
+put-spec = tie.close (tie.spec mul-xs slice-write-xs (λ c. search needs) returns returns-2)

@@ -7,13 +7,13 @@ use Rattle.machine.proofs.plans.call.Tie as tie
 
 returns : tie.Need-returns
 unfolding pick
-returns c = rw (lt-ltb _ _ (rw (c .before .before .before .before .before .stack-limit .ensures) at (c .before .before .before .before .if1 .taken)), c .to-stack .ensures, c .before .deep .ensures, c .before .before .go .ensures)
+returns c = rw (lt-ltb _ _ (c .before .before .before .before .if1 .taken), c .to-stack .ensures, c .before .deep .ensures, c .before .before .go .ensures)
 
 returns-2 : tie.Need-returns-2
 unfolding pick
-returns-2 c = rw (le-ltb _ _ (rw (c .before .before .stack-limit .ensures) at (c .before .if1 .left)), c .stopped .ensures)
+returns-2 c = rw (le-ltb _ _ (c .before .if1 .left), c .stopped .ensures)
 
 pub call-spec : {M : Type 1} → statement M
 call-spec =
     tie.close
-    (tie.spec (λ c κs. search needs) (λ c. search needs) (λ c κs. search needs) (λ c. search needs) (λ c κs. search needs) (λ c. search needs) (λ c κs. search needs) returns (λ c κs. search needs) returns-2)
+    (tie.spec (λ c. search needs) (λ c κs. search needs) (λ c. search needs) (λ c κs. search needs) (λ c. search needs) (λ c κs. search needs) returns (λ c κs. search needs) returns-2)

@@ -7,7 +7,7 @@ use Rattle.machine.proofs.plans.load.Tie as tie
 
 returns : tie.Need-returns
 unfolding pick
-returns c = rw (lt-ltb _ _ (c .before .before .before .if1 .taken), c .to-register .ensures, c .before .before .next .ensures, c .before .value-at .ensures)
+returns c = rw (lt-ltb _ _ (c .before .before .before .if1 .taken), c .to-register .ensures, c .before .before .next .ensures, c .before .cell .ensures)
 
 returns-2 : tie.Need-returns-2
 unfolding pick
