@@ -6,7 +6,7 @@ use mathlib.Core.Bool.{Bool, true, false}
 use mathlib.Core.List.{List, [], _∷_, _++_}
 use native.Mathlib.Nat.{zero-add, sub-self, sub-zero, add-zero, add-assoc}
 use native.Mathlib.Omega.{arith}
-use borrow.Author.Tests.{le-leb, lt-leb, eq-eqb, ne-eqb}
+use borrow.Author.Tests.{le-leb, lt-leb, eq-eqb, ne-eqb, eqb-true, eqb-false}
 use lib.Dec.{leb, eqb}
 use lib.ListN.{length}
 use Rattle.laws.specs.Choice.{pick}
@@ -147,6 +147,39 @@ going-done e s₀ s budget left cycles g h =
 pub step-refused : (e : Env) (s : State) (n : ℕ) → n ≡ first-failing (guards e s) → (n ≡ 0 → ⊥) → refused n s ≡ stepOf e s
 unfolding stepOf pick
 step-refused e s n p h = rw (← p, ne-eqb _ _ h)
+
+-- a run of one step is that step
+
+same-outcome : {n m c k : ℕ} {s : State} → n ≡ m → c ≡ k →
+    _≡_ {A = Outcome} (record { number = n; cycles = c; state = s }) (record { number = m; cycles = k; state = s })
+same-outcome p q = rw (p, q)
+
+abbrev outcome : End → Outcome
+outcome x = record { number = x .number; cycles = x .cycles; state = x .last }
+
+only : (o : Outcome) (s : State) → ((o .number ≡ 0 → ⊥) → o ≡ refused (o .number) s) →
+    outcome (endOf (pick (eqb (o .number) 0) (after s (o .cycles) (ended 0 (o .state))) (ended (o .number) s))) ≡ o
+unfolding pick
+only o s h = go (eqb (o .number) 0) refl
+  where
+    go : (b : Bool) → eqb (o .number) 0 ≡ b →
+        outcome (endOf (pick b (after s (o .cycles) (ended 0 (o .state))) (ended (o .number) s))) ≡ o
+    go true q = same-outcome (sym (eqb-true (o .number) 0 q)) (add-zero (o .cycles))
+    go false q = sym (h (eqb-false (o .number) 0 q))
+
+refusing : (e : Env) (s : State) → (advanceOf e s .number ≡ 0 → ⊥) → advanceOf e s ≡ refused (advanceOf e s .number) s
+unfolding advanceOf pick
+refusing e s = go (eqb (Rattle.state.specs.Step.number e s) 0)
+  where
+    go : (b : Bool) → (pick b (record { number = 0; cycles = cyclesOf (e .config) (factsAt e s); state = applied (planAt e s) s }) (refused (Rattle.state.specs.Step.number e s) s) .number ≡ 0 → ⊥) →
+        pick b (record { number = 0; cycles = cyclesOf (e .config) (factsAt e s); state = applied (planAt e s) s }) (refused (Rattle.state.specs.Step.number e s) s) ≡
+        refused (pick b (record { number = 0; cycles = cyclesOf (e .config) (factsAt e s); state = applied (planAt e s) s }) (refused (Rattle.state.specs.Step.number e s) s) .number) s
+    go true n = absurd (n refl)
+    go false n = refl
+
+pub one-step : (e : Env) (s : State) (x : End) → x ≡ endOf (runOf 1 e s) → outcome x ≡ advanceOf e s
+unfolding runOf
+one-step e s x q = ap outcome q ∙ only (advanceOf e s) s (refusing e s)
 
 pub step-taken : (e : Env) (s : State) (o : Outcome) (n : ℕ) → n ≡ first-failing (guards e s) → n ≡ 0 → o ≡ advanceOf e s → o ≡ stepOf e s
 unfolding stepOf pick

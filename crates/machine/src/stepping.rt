@@ -85,7 +85,7 @@ fn turns(
     }
 }
 
-// One step: the refusals 1 to 15 in document 01's order, or the next machine and the step's cycles. Answer, machine, both memories and both lists of
+// One step, a run of one: the refusals 1 to 15 in document 01's order, or the next machine and the step's cycles. Answer, machine, both memories and both lists of
 // the output log are `stepOf` of what was given; a refused step leaves them as they were.
 pub fn step(
     c: Config,
@@ -127,7 +127,7 @@ pub fn step(
     let lowers = words::lower_limits(c);
     let waits = words::wait_table(c);
     let limit = Machine::stack_limit(c.pcstack);
-    let t = advance(
+    let t = turns(
         c,
         limit,
         core,
@@ -145,6 +145,7 @@ pub fn step(
         memory,
         addresses,
         values,
+        1,
     );
     let next = t.core;
     let machine = Machine { core: next, stack };

@@ -15,6 +15,459 @@ use borrow.Author.Needs.{needs}
 use Rattle.machine.proofs.exec.exec.Statement.{statement}
 use Rattle.machine.proofs.exec.exec.Tie as tie
 
+place-requires-39 : tie.Need-place-requires-39
+place-requires-39 c κs = (c .before .before .before .before .before .before .pre .0 .lawful, c .before .before .before .before .before .before .pre .0 .small .wp)
+
+register-requires-76 : tie.Need-register-requires-76
+register-requires-76 c κs = c .before .before .before .before .before .before .pre .0
+
+register-requires-75 : tie.Need-register-requires-75
+register-requires-75 c κs = c .before .before .before .before .before .before .pre .0
+
+register-requires-74 : tie.Need-register-requires-74
+register-requires-74 c κs = c .before .before .before .before .before .before .pre .0
+
+register-requires-73 : tie.Need-register-requires-73
+register-requires-73 c κs = c .before .before .before .before .before .before .pre .0
+
+register-requires-72 : tie.Need-register-requires-72
+register-requires-72 c κs = c .before .before .before .before .before .before .before .pre .0
+
+register-requires-71 : tie.Need-register-requires-71
+register-requires-71 c κs = c .before .before .before .before .before .before .pre .0
+
+register-requires-70 : tie.Need-register-requires-70
+register-requires-70 c κs = c .before .before .before .before .before .before .before .pre .0
+
+place-requires-38 : tie.Need-place-requires-38
+place-requires-38 c κs = (c .before .before .before .before .before .before .pre .0 .lawful, c .before .before .before .before .before .before .pre .0 .small .wp)
+
+register-requires-69 : tie.Need-register-requires-69
+register-requires-69 c κs = c .before .before .before .before .before .before .before .pre .0
+
+place-requires-37 : tie.Need-place-requires-37
+place-requires-37 c κs = (c .before .before .before .before .before .before .pre .0 .lawful, c .before .before .before .before .before .before .pre .0 .small .wp)
+
+register-requires-68 : tie.Need-register-requires-68
+register-requires-68 c κs = c .before .before .before .before .before .before .pre .0
+
+register-requires-67 : tie.Need-register-requires-67
+register-requires-67 c κs = c .before .before .before .before .before .before .before .pre .0
+
+register-requires-66 : tie.Need-register-requires-66
+register-requires-66 c κs = c .before .before .before .before .before .before .pre .0
+
+place-requires-36 : tie.Need-place-requires-36
+place-requires-36 c κs = (c .before .before .before .before .before .before .pre .0 .lawful, c .before .before .before .before .before .before .pre .0 .small .wp)
+
+register-requires-65 : tie.Need-register-requires-65
+register-requires-65 c κs = c .before .before .before .before .before .before .before .pre .0
+
+place-requires-35 : tie.Need-place-requires-35
+place-requires-35 c κs = (c .before .before .before .before .before .before .pre .0 .lawful, c .before .before .before .before .before .before .pre .0 .small .wp)
+
+place-requires-34 : tie.Need-place-requires-34
+place-requires-34 c κs = (c .before .before .before .before .before .before .pre .0 .lawful, c .before .before .before .before .before .before .pre .0 .small .wp)
+
+register-requires-64 : tie.Need-register-requires-64
+register-requires-64 c κs = c .before .before .before .before .before .before .before .pre .0
+
+place-requires-33 : tie.Need-place-requires-33
+place-requires-33 c κs = (c .before .before .before .before .before .before .pre .0 .lawful, c .before .before .before .before .before .before .pre .0 .small .wp)
+
+register-requires-63 : tie.Need-register-requires-63
+register-requires-63 c κs = c .before .before .before .before .before .before .pre .0
+
+register-requires-62 : tie.Need-register-requires-62
+register-requires-62 c κs = c .before .before .before .before .before .before .pre .0
+
+compute-requires-30 : tie.Need-compute-requires-30
+compute-requires-30 c κs = c .before .before .before .before .before .before .before .before .before .pre .0 .small
+
+register-requires-61 : tie.Need-register-requires-61
+register-requires-61 c κs = c .before .before .before .before .before .before .before .before .pre .0
+
+register-requires-60 : tie.Need-register-requires-60
+register-requires-60 c κs = c .before .before .before .before .before .before .before .pre .0
+
+place-requires-32 : tie.Need-place-requires-32
+place-requires-32 c κs = (c .before .before .before .before .before .before .pre .0 .lawful, c .before .before .before .before .before .before .pre .0 .small .wp)
+
+compute-requires-29 : tie.Need-compute-requires-29
+compute-requires-29 c κs = c .before .before .before .before .before .before .before .before .before .pre .0 .small
+
+register-requires-59 : tie.Need-register-requires-59
+register-requires-59 c κs = c .before .before .before .before .before .before .before .before .pre .0
+
+register-requires-58 : tie.Need-register-requires-58
+register-requires-58 c κs = c .before .before .before .before .before .before .before .pre .0
+
+place-requires-31 : tie.Need-place-requires-31
+place-requires-31 c κs = (c .before .before .before .before .before .before .pre .0 .lawful, c .before .before .before .before .before .before .pre .0 .small .wp)
+
+compute-requires-28 : tie.Need-compute-requires-28
+compute-requires-28 c κs = c .before .before .before .before .before .before .before .before .before .pre .0 .small
+
+register-requires-57 : tie.Need-register-requires-57
+register-requires-57 c κs = c .before .before .before .before .before .before .before .before .pre .0
+
+register-requires-56 : tie.Need-register-requires-56
+register-requires-56 c κs = c .before .before .before .before .before .before .before .pre .0
+
+place-requires-30 : tie.Need-place-requires-30
+place-requires-30 c κs = (c .before .before .before .before .before .before .pre .0 .lawful, c .before .before .before .before .before .before .pre .0 .small .wp)
+
+compute-requires-27 : tie.Need-compute-requires-27
+compute-requires-27 c κs = c .before .before .before .before .before .before .before .before .before .pre .0 .small
+
+register-requires-55 : tie.Need-register-requires-55
+register-requires-55 c κs = c .before .before .before .before .before .before .before .before .pre .0
+
+register-requires-54 : tie.Need-register-requires-54
+register-requires-54 c κs = c .before .before .before .before .before .before .before .pre .0
+
+place-requires-29 : tie.Need-place-requires-29
+place-requires-29 c κs = (c .before .before .before .before .before .before .pre .0 .lawful, c .before .before .before .before .before .before .pre .0 .small .wp)
+
+compute-requires-26 : tie.Need-compute-requires-26
+compute-requires-26 c κs = c .before .before .before .before .before .before .before .before .before .pre .0 .small
+
+register-requires-53 : tie.Need-register-requires-53
+register-requires-53 c κs = c .before .before .before .before .before .before .before .before .pre .0
+
+register-requires-52 : tie.Need-register-requires-52
+register-requires-52 c κs = c .before .before .before .before .before .before .before .pre .0
+
+place-requires-28 : tie.Need-place-requires-28
+place-requires-28 c κs = (c .before .before .before .before .before .before .pre .0 .lawful, c .before .before .before .before .before .before .pre .0 .small .wp)
+
+compute-requires-25 : tie.Need-compute-requires-25
+compute-requires-25 c κs = c .before .before .before .before .before .before .before .before .before .pre .0 .small
+
+register-requires-51 : tie.Need-register-requires-51
+register-requires-51 c κs = c .before .before .before .before .before .before .before .before .pre .0
+
+register-requires-50 : tie.Need-register-requires-50
+register-requires-50 c κs = c .before .before .before .before .before .before .before .pre .0
+
+place-requires-27 : tie.Need-place-requires-27
+place-requires-27 c κs = (c .before .before .before .before .before .before .pre .0 .lawful, c .before .before .before .before .before .before .pre .0 .small .wp)
+
+compute-requires-24 : tie.Need-compute-requires-24
+compute-requires-24 c κs = c .before .before .before .before .before .before .before .before .before .pre .0 .small
+
+register-requires-49 : tie.Need-register-requires-49
+register-requires-49 c κs = c .before .before .before .before .before .before .before .before .pre .0
+
+register-requires-48 : tie.Need-register-requires-48
+register-requires-48 c κs = c .before .before .before .before .before .before .before .pre .0
+
+place-requires-26 : tie.Need-place-requires-26
+place-requires-26 c κs = (c .before .before .before .before .before .before .pre .0 .lawful, c .before .before .before .before .before .before .pre .0 .small .wp)
+
+compute-requires-23 : tie.Need-compute-requires-23
+compute-requires-23 c κs = c .before .before .before .before .before .before .before .before .before .pre .0 .small
+
+register-requires-47 : tie.Need-register-requires-47
+register-requires-47 c κs = c .before .before .before .before .before .before .before .before .pre .0
+
+register-requires-46 : tie.Need-register-requires-46
+register-requires-46 c κs = c .before .before .before .before .before .before .before .pre .0
+
+place-requires-25 : tie.Need-place-requires-25
+place-requires-25 c κs = (c .before .before .before .before .before .before .pre .0 .lawful, c .before .before .before .before .before .before .pre .0 .small .wp)
+
+compute-requires-22 : tie.Need-compute-requires-22
+compute-requires-22 c κs = c .before .before .before .before .before .before .before .before .pre .0 .small
+
+register-requires-45 : tie.Need-register-requires-45
+register-requires-45 c κs = c .before .before .before .before .before .before .before .pre .0
+
+place-requires-24 : tie.Need-place-requires-24
+place-requires-24 c κs = (c .before .before .before .before .before .before .pre .0 .lawful, c .before .before .before .before .before .before .pre .0 .small .wp)
+
+compute-requires-21 : tie.Need-compute-requires-21
+compute-requires-21 c κs = c .before .before .before .before .before .before .before .before .pre .0 .small
+
+register-requires-44 : tie.Need-register-requires-44
+register-requires-44 c κs = c .before .before .before .before .before .before .before .pre .0
+
+place-requires-23 : tie.Need-place-requires-23
+place-requires-23 c κs = (c .before .before .before .before .before .before .pre .0 .lawful, c .before .before .before .before .before .before .pre .0 .small .wp)
+
+compute-requires-20 : tie.Need-compute-requires-20
+compute-requires-20 c κs = c .before .before .before .before .before .before .before .before .pre .0 .small
+
+register-requires-43 : tie.Need-register-requires-43
+register-requires-43 c κs = c .before .before .before .before .before .before .before .pre .0
+
+place-requires-22 : tie.Need-place-requires-22
+place-requires-22 c κs = (c .before .before .before .before .before .before .pre .0 .lawful, c .before .before .before .before .before .before .pre .0 .small .wp)
+
+compute-requires-19 : tie.Need-compute-requires-19
+compute-requires-19 c κs = c .before .before .before .before .before .before .before .before .before .pre .0 .small
+
+register-requires-42 : tie.Need-register-requires-42
+register-requires-42 c κs = c .before .before .before .before .before .before .before .before .pre .0
+
+register-requires-41 : tie.Need-register-requires-41
+register-requires-41 c κs = c .before .before .before .before .before .before .before .pre .0
+
+place-requires-21 : tie.Need-place-requires-21
+place-requires-21 c κs = (c .before .before .before .before .before .before .pre .0 .lawful, c .before .before .before .before .before .before .pre .0 .small .wp)
+
+compute-requires-18 : tie.Need-compute-requires-18
+compute-requires-18 c κs = c .before .before .before .before .before .before .before .before .before .pre .0 .small
+
+register-requires-40 : tie.Need-register-requires-40
+register-requires-40 c κs = c .before .before .before .before .before .before .before .before .pre .0
+
+register-requires-39 : tie.Need-register-requires-39
+register-requires-39 c κs = c .before .before .before .before .before .before .before .pre .0
+
+place-requires-20 : tie.Need-place-requires-20
+place-requires-20 c κs = (c .before .before .before .before .before .before .pre .0 .lawful, c .before .before .before .before .before .before .pre .0 .small .wp)
+
+compute-requires-17 : tie.Need-compute-requires-17
+compute-requires-17 c κs = c .before .before .before .before .before .before .before .before .before .pre .0 .small
+
+register-requires-38 : tie.Need-register-requires-38
+register-requires-38 c κs = c .before .before .before .before .before .before .before .before .pre .0
+
+register-requires-37 : tie.Need-register-requires-37
+register-requires-37 c κs = c .before .before .before .before .before .before .before .pre .0
+
+place-requires-19 : tie.Need-place-requires-19
+place-requires-19 c κs = (c .before .before .before .before .before .before .pre .0 .lawful, c .before .before .before .before .before .before .pre .0 .small .wp)
+
+register-requires-36 : tie.Need-register-requires-36
+register-requires-36 c κs = c .before .before .before .before .before .before .before .pre .0
+
+place-requires-18 : tie.Need-place-requires-18
+place-requires-18 c κs = (c .before .before .before .before .before .before .pre .0 .lawful, c .before .before .before .before .before .before .pre .0 .small .wp)
+
+register-requires-35 : tie.Need-register-requires-35
+register-requires-35 c κs = c .before .before .before .before .before .before .before .before .pre .0
+
+register-requires-34 : tie.Need-register-requires-34
+register-requires-34 c κs = c .before .before .before .before .before .before .before .pre .0
+
+place-requires-17 : tie.Need-place-requires-17
+place-requires-17 c κs = (c .before .before .before .before .before .before .pre .0 .lawful, c .before .before .before .before .before .before .pre .0 .small .wp)
+
+compute-requires-16 : tie.Need-compute-requires-16
+compute-requires-16 c κs = c .before .before .before .before .before .before .before .before .before .pre .0 .small
+
+register-requires-33 : tie.Need-register-requires-33
+register-requires-33 c κs = c .before .before .before .before .before .before .before .pre .0
+
+place-requires-16 : tie.Need-place-requires-16
+place-requires-16 c κs = (c .before .before .before .before .before .before .pre .0 .lawful, c .before .before .before .before .before .before .pre .0 .small .wp)
+
+compute-requires-15 : tie.Need-compute-requires-15
+compute-requires-15 c κs = c .before .before .before .before .before .before .before .before .before .pre .0 .small
+
+register-requires-32 : tie.Need-register-requires-32
+register-requires-32 c κs = c .before .before .before .before .before .before .before .before .pre .0
+
+register-requires-31 : tie.Need-register-requires-31
+register-requires-31 c κs = c .before .before .before .before .before .before .before .pre .0
+
+place-requires-15 : tie.Need-place-requires-15
+place-requires-15 c κs = (c .before .before .before .before .before .before .pre .0 .lawful, c .before .before .before .before .before .before .pre .0 .small .wp)
+
+compute-requires-14 : tie.Need-compute-requires-14
+compute-requires-14 c κs = c .before .before .before .before .before .before .before .before .before .pre .0 .small
+
+register-requires-30 : tie.Need-register-requires-30
+register-requires-30 c κs = c .before .before .before .before .before .before .before .pre .0
+
+place-requires-14 : tie.Need-place-requires-14
+place-requires-14 c κs = (c .before .before .before .before .before .before .pre .0 .lawful, c .before .before .before .before .before .before .pre .0 .small .wp)
+
+compute-requires-13 : tie.Need-compute-requires-13
+compute-requires-13 c κs = c .before .before .before .before .before .before .before .before .before .pre .0 .small
+
+register-requires-29 : tie.Need-register-requires-29
+register-requires-29 c κs = c .before .before .before .before .before .before .before .before .pre .0
+
+register-requires-28 : tie.Need-register-requires-28
+register-requires-28 c κs = c .before .before .before .before .before .before .before .pre .0
+
+place-requires-13 : tie.Need-place-requires-13
+place-requires-13 c κs = (c .before .before .before .before .before .before .pre .0 .lawful, c .before .before .before .before .before .before .pre .0 .small .wp)
+
+compute-requires-12 : tie.Need-compute-requires-12
+compute-requires-12 c κs = c .before .before .before .before .before .before .before .before .before .pre .0 .small
+
+register-requires-27 : tie.Need-register-requires-27
+register-requires-27 c κs = c .before .before .before .before .before .before .before .pre .0
+
+place-requires-12 : tie.Need-place-requires-12
+place-requires-12 c κs = (c .before .before .before .before .before .before .pre .0 .lawful, c .before .before .before .before .before .before .pre .0 .small .wp)
+
+compute-requires-11 : tie.Need-compute-requires-11
+compute-requires-11 c κs = c .before .before .before .before .before .before .before .before .before .pre .0 .small
+
+register-requires-26 : tie.Need-register-requires-26
+register-requires-26 c κs = c .before .before .before .before .before .before .before .before .pre .0
+
+register-requires-25 : tie.Need-register-requires-25
+register-requires-25 c κs = c .before .before .before .before .before .before .before .pre .0
+
+place-requires-11 : tie.Need-place-requires-11
+place-requires-11 c κs = (c .before .before .before .before .before .before .pre .0 .lawful, c .before .before .before .before .before .before .pre .0 .small .wp)
+
+compute-requires-10 : tie.Need-compute-requires-10
+compute-requires-10 c κs = c .before .before .before .before .before .before .before .before .before .pre .0 .small
+
+register-requires-24 : tie.Need-register-requires-24
+register-requires-24 c κs = c .before .before .before .before .before .before .before .pre .0
+
+place-requires-10 : tie.Need-place-requires-10
+place-requires-10 c κs = (c .before .before .before .before .before .before .pre .0 .lawful, c .before .before .before .before .before .before .pre .0 .small .wp)
+
+compute-requires-9 : tie.Need-compute-requires-9
+compute-requires-9 c κs = c .before .before .before .before .before .before .before .before .before .pre .0 .small
+
+register-requires-23 : tie.Need-register-requires-23
+register-requires-23 c κs = c .before .before .before .before .before .before .before .before .pre .0
+
+register-requires-22 : tie.Need-register-requires-22
+register-requires-22 c κs = c .before .before .before .before .before .before .before .pre .0
+
+place-requires-9 : tie.Need-place-requires-9
+place-requires-9 c κs = (c .before .before .before .before .before .before .pre .0 .lawful, c .before .before .before .before .before .before .pre .0 .small .wp)
+
+compute-requires-8 : tie.Need-compute-requires-8
+compute-requires-8 c κs = c .before .before .before .before .before .before .before .before .before .pre .0 .small
+
+register-requires-21 : tie.Need-register-requires-21
+register-requires-21 c κs = c .before .before .before .before .before .before .before .pre .0
+
+place-requires-8 : tie.Need-place-requires-8
+place-requires-8 c κs = (c .before .before .before .before .before .before .pre .0 .lawful, c .before .before .before .before .before .before .pre .0 .small .wp)
+
+compute-requires-7 : tie.Need-compute-requires-7
+compute-requires-7 c κs = c .before .before .before .before .before .before .before .before .before .pre .0 .small
+
+register-requires-20 : tie.Need-register-requires-20
+register-requires-20 c κs = c .before .before .before .before .before .before .before .before .pre .0
+
+register-requires-19 : tie.Need-register-requires-19
+register-requires-19 c κs = c .before .before .before .before .before .before .before .pre .0
+
+place-requires-7 : tie.Need-place-requires-7
+place-requires-7 c κs = (c .before .before .before .before .before .before .pre .0 .lawful, c .before .before .before .before .before .before .pre .0 .small .wp)
+
+compare-requires-6 : tie.Need-compare-requires-6
+compare-requires-6 c κs = c .before .before .before .before .before .before .before .before .pre .0 .small
+
+register-requires-18 : tie.Need-register-requires-18
+register-requires-18 c κs = c .before .before .before .before .before .before .pre .0
+
+compare-requires-5 : tie.Need-compare-requires-5
+compare-requires-5 c κs = c .before .before .before .before .before .before .before .before .pre .0 .small
+
+register-requires-17 : tie.Need-register-requires-17
+register-requires-17 c κs = c .before .before .before .before .before .before .before .pre .0
+
+register-requires-16 : tie.Need-register-requires-16
+register-requires-16 c κs = c .before .before .before .before .before .before .pre .0
+
+compare-requires-4 : tie.Need-compare-requires-4
+compare-requires-4 c κs = c .before .before .before .before .before .before .before .before .pre .0 .small
+
+register-requires-15 : tie.Need-register-requires-15
+register-requires-15 c κs = c .before .before .before .before .before .before .pre .0
+
+compare-requires-3 : tie.Need-compare-requires-3
+compare-requires-3 c κs = c .before .before .before .before .before .before .before .before .pre .0 .small
+
+register-requires-14 : tie.Need-register-requires-14
+register-requires-14 c κs = c .before .before .before .before .before .before .before .pre .0
+
+register-requires-13 : tie.Need-register-requires-13
+register-requires-13 c κs = c .before .before .before .before .before .before .pre .0
+
+compute-requires-6 : tie.Need-compute-requires-6
+compute-requires-6 c κs = c .before .before .before .before .before .before .before .before .before .pre .0 .small
+
+register-requires-12 : tie.Need-register-requires-12
+register-requires-12 c κs = c .before .before .before .before .before .before .before .pre .0
+
+place-requires-6 : tie.Need-place-requires-6
+place-requires-6 c κs = (c .before .before .before .before .before .before .pre .0 .lawful, c .before .before .before .before .before .before .pre .0 .small .wp)
+
+compute-requires-5 : tie.Need-compute-requires-5
+compute-requires-5 c κs = c .before .before .before .before .before .before .before .before .before .pre .0 .small
+
+register-requires-11 : tie.Need-register-requires-11
+register-requires-11 c κs = c .before .before .before .before .before .before .before .before .pre .0
+
+register-requires-10 : tie.Need-register-requires-10
+register-requires-10 c κs = c .before .before .before .before .before .before .before .pre .0
+
+place-requires-5 : tie.Need-place-requires-5
+place-requires-5 c κs = (c .before .before .before .before .before .before .pre .0 .lawful, c .before .before .before .before .before .before .pre .0 .small .wp)
+
+compute-requires-4 : tie.Need-compute-requires-4
+compute-requires-4 c κs = c .before .before .before .before .before .before .before .before .before .pre .0 .small
+
+register-requires-9 : tie.Need-register-requires-9
+register-requires-9 c κs = c .before .before .before .before .before .before .before .pre .0
+
+place-requires-4 : tie.Need-place-requires-4
+place-requires-4 c κs = (c .before .before .before .before .before .before .pre .0 .lawful, c .before .before .before .before .before .before .pre .0 .small .wp)
+
+compute-requires-3 : tie.Need-compute-requires-3
+compute-requires-3 c κs = c .before .before .before .before .before .before .before .before .before .pre .0 .small
+
+register-requires-8 : tie.Need-register-requires-8
+register-requires-8 c κs = c .before .before .before .before .before .before .before .before .pre .0
+
+register-requires-7 : tie.Need-register-requires-7
+register-requires-7 c κs = c .before .before .before .before .before .before .before .pre .0
+
+place-requires-3 : tie.Need-place-requires-3
+place-requires-3 c κs = (c .before .before .before .before .before .before .pre .0 .lawful, c .before .before .before .before .before .before .pre .0 .small .wp)
+
+compute-requires-2 : tie.Need-compute-requires-2
+compute-requires-2 c κs = c .before .before .before .before .before .before .before .before .before .pre .0 .small
+
+register-requires-6 : tie.Need-register-requires-6
+register-requires-6 c κs = c .before .before .before .before .before .before .before .pre .0
+
+place-requires-2 : tie.Need-place-requires-2
+place-requires-2 c κs = (c .before .before .before .before .before .before .pre .0 .lawful, c .before .before .before .before .before .before .pre .0 .small .wp)
+
+compute-requires : tie.Need-compute-requires
+compute-requires c κs = c .before .before .before .before .before .before .before .before .before .pre .0 .small
+
+register-requires-5 : tie.Need-register-requires-5
+register-requires-5 c κs = c .before .before .before .before .before .before .before .before .pre .0
+
+register-requires-4 : tie.Need-register-requires-4
+register-requires-4 c κs = c .before .before .before .before .before .before .before .pre .0
+
+place-requires : tie.Need-place-requires
+place-requires c κs = (c .before .before .before .before .before .before .pre .0 .lawful, c .before .before .before .before .before .before .pre .0 .small .wp)
+
+compare-requires-2 : tie.Need-compare-requires-2
+compare-requires-2 c κs = c .before .before .before .before .before .before .before .before .pre .0 .small
+
+register-requires-3 : tie.Need-register-requires-3
+register-requires-3 c κs = c .before .before .before .before .before .before .pre .0
+
+compare-requires : tie.Need-compare-requires
+compare-requires c κs = c .before .before .before .before .before .before .before .before .pre .0 .small
+
+register-requires-2 : tie.Need-register-requires-2
+register-requires-2 c κs = c .before .before .before .before .before .before .before .pre .0
+
+register-requires : tie.Need-register-requires
+register-requires c κs = c .before .before .before .before .before .before .pre .0
+
 cell-requires-2 : tie.Need-cell-requires-2
 cell-requires-2 c κs = let b = bounds (c .before .before .before .before .before .before .args .c) (c .before .before .before .before .before .before .pre .0 .lawful) in omega (arith, b .registers-some, c .before .before .before .before .before .before .pre .0 .bank)
 
@@ -286,4 +739,4 @@ returns-65 c = record { acts = λ i p. unsupported-is _ i _ _ _ refl p refl refl
 pub exec-spec : {M : Type 1} → statement M
 exec-spec =
     tie.close
-    (tie.spec sub-last (λ c κs. search needs) (λ c κs. search needs) (λ c κs. search needs) (λ c κs. search needs) (λ c κs. search needs) (λ c κs. search needs) (λ c κs. search needs) (λ c κs. search needs) (λ c κs. search needs) (λ c κs. search needs) (λ c κs. search needs) (λ c κs. search needs) (λ c κs. search needs) (λ c κs. search needs) (λ c κs. search needs) (λ c κs. search needs) (λ c κs. search needs) (λ c κs. search needs) (λ c κs. search needs) (λ c κs. search needs) (λ c κs. search needs) (λ c κs. search needs) (λ c κs. search needs) (λ c κs. search needs) (λ c κs. search needs) (λ c κs. search needs) (λ c κs. search needs) (λ c κs. search needs) (λ c κs. search needs) (λ c κs. search needs) (λ c κs. search needs) (λ c κs. search needs) (λ c κs. search needs) (λ c κs. search needs) (λ c κs. search needs) (λ c κs. search needs) (λ c κs. search needs) (λ c κs. search needs) (λ c κs. search needs) (λ c κs. search needs) (λ c κs. search needs) (λ c κs. search needs) (λ c κs. search needs) (λ c κs. search needs) (λ c κs. search needs) (λ c κs. search needs) (λ c κs. search needs) (λ c κs. search needs) (λ c κs. search needs) (λ c κs. search needs) (λ c κs. search needs) (λ c κs. search needs) (λ c κs. search needs) (λ c κs. search needs) (λ c κs. search needs) (λ c κs. search needs) (λ c κs. search needs) (λ c κs. search needs) (λ c κs. search needs) (λ c κs. search needs) (λ c κs. search needs) (λ c κs. search needs) (λ c κs. search needs) (λ c κs. search needs) (λ c κs. search needs) (λ c κs. search needs) (λ c κs. search needs) (λ c κs. search needs) (λ c κs. search needs) (λ c κs. search needs) (λ c κs. search needs) (λ c κs. search needs) (λ c κs. search needs) (λ c κs. search needs) (λ c κs. search needs) (λ c κs. search needs) (λ c κs. search needs) (λ c κs. search needs) (λ c κs. search needs) (λ c κs. search needs) (λ c κs. search needs) (λ c κs. search needs) (λ c κs. search needs) (λ c κs. search needs) (λ c κs. search needs) (λ c κs. search needs) (λ c κs. search needs) (λ c κs. search needs) (λ c κs. search needs) (λ c κs. search needs) (λ c κs. search needs) (λ c κs. search needs) (λ c κs. search needs) (λ c κs. search needs) (λ c κs. search needs) (λ c κs. search needs) (λ c κs. search needs) (λ c κs. search needs) (λ c κs. search needs) (λ c κs. search needs) (λ c κs. search needs) (λ c κs. search needs) (λ c κs. search needs) (λ c κs. search needs) (λ c κs. search needs) (λ c κs. search needs) (λ c κs. search needs) (λ c κs. search needs) (λ c κs. search needs) (λ c κs. search needs) (λ c κs. search needs) (λ c κs. search needs) (λ c κs. search needs) (λ c κs. search needs) (λ c κs. search needs) (λ c κs. search needs) (λ c κs. search needs) (λ c κs. search needs) (λ c κs. search needs) (λ c κs. search needs) (λ c κs. search needs) (λ c κs. search needs) (λ c κs. search needs) (λ c κs. search needs) (λ c κs. search needs) (λ c κs. search needs) (λ c κs. search needs) (λ c κs. search needs) (λ c κs. search needs) (λ c κs. search needs) (λ c κs. search needs) (λ c κs. search needs) (λ c κs. search needs) (λ c κs. search needs) (λ c κs. search needs) (λ c κs. search needs) (λ c κs. search needs) (λ c κs. search needs) (λ c κs. search needs) (λ c κs. search needs) (λ c κs. search needs) (λ c κs. search needs) (λ c κs. search needs) (λ c κs. search needs) (λ c κs. search needs) (λ c κs. search needs) (λ c. search needs) cell-requires (λ c κs. search needs) (λ c κs. search needs) (λ c. search needs) (λ c κs. search needs) (λ c κs. search needs) (λ c κs. search needs) (λ c κs. search needs) (λ c κs. search needs) (λ c κs. search needs) (λ c κs. search needs) (λ c κs. search needs) (λ c κs. search needs) (λ c κs. search needs) (λ c κs. search needs) (λ c κs. search needs) (λ c. search needs) (λ c κs. search needs) (λ c κs. search needs) (λ c κs. search needs) (λ c κs. search needs) (λ c κs. search needs) (λ c κs. search needs) (λ c κs. search needs) (λ c κs. search needs) (λ c κs. search needs) (λ c κs. search needs) (λ c κs. search needs) (λ c κs. search needs) (λ c κs. search needs) (λ c κs. search needs) (λ c κs. search needs) (λ c κs. search needs) (λ c κs. search needs) (λ c κs. search needs) (λ c κs. search needs) (λ c. search needs) (λ c κs. search needs) (λ c. search needs) (λ c κs. search needs) (λ c κs. search needs) (λ c. search needs) (λ c κs. search needs) (λ c κs. search needs) (λ c. search needs) (λ c κs. search needs) (λ c. search needs) (λ c κs. search needs) (λ c κs. search needs) (λ c. search needs) (λ c κs. search needs) (λ c κs. search needs) (λ c κs. search needs) (λ c κs. search needs) (λ c κs. search needs) cell-requires-2 (λ c κs. search needs) (λ c κs. search needs) (λ c κs. search needs) (λ c κs. search needs) returns returns-2 returns-3 returns-4 returns-5 returns-6 returns-7 returns-8 returns-9 returns-10 returns-11 returns-12 returns-13 returns-14 returns-15 returns-16 returns-17 returns-18 returns-19 returns-20 returns-21 returns-22 returns-23 returns-24 returns-25 returns-26 returns-27 returns-28 returns-29 returns-30 returns-31 returns-32 returns-33 returns-34 returns-35 returns-36 returns-37 returns-38 returns-39 returns-40 returns-41 returns-42 returns-43 returns-44 returns-45 returns-46 returns-47 returns-48 returns-49 returns-50 returns-51 returns-52 returns-53 returns-54 returns-55 returns-56 returns-57 returns-58 returns-59 returns-60 returns-61 returns-62 returns-63 returns-64 returns-65)
+    (tie.spec sub-last (λ c κs. search needs) register-requires register-requires-2 compare-requires register-requires-3 (λ c κs. search needs) compare-requires-2 place-requires register-requires-4 register-requires-5 compute-requires place-requires-2 register-requires-6 (λ c κs. search needs) compute-requires-2 place-requires-3 register-requires-7 register-requires-8 compute-requires-3 place-requires-4 register-requires-9 (λ c κs. search needs) compute-requires-4 place-requires-5 register-requires-10 register-requires-11 compute-requires-5 place-requires-6 register-requires-12 (λ c κs. search needs) compute-requires-6 register-requires-13 register-requires-14 compare-requires-3 register-requires-15 (λ c κs. search needs) compare-requires-4 register-requires-16 register-requires-17 compare-requires-5 register-requires-18 (λ c κs. search needs) compare-requires-6 place-requires-7 register-requires-19 register-requires-20 compute-requires-7 place-requires-8 register-requires-21 (λ c κs. search needs) compute-requires-8 place-requires-9 register-requires-22 register-requires-23 compute-requires-9 place-requires-10 register-requires-24 (λ c κs. search needs) compute-requires-10 place-requires-11 register-requires-25 register-requires-26 compute-requires-11 place-requires-12 register-requires-27 (λ c κs. search needs) compute-requires-12 place-requires-13 register-requires-28 register-requires-29 compute-requires-13 place-requires-14 register-requires-30 (λ c κs. search needs) compute-requires-14 place-requires-15 register-requires-31 register-requires-32 compute-requires-15 place-requires-16 register-requires-33 (λ c κs. search needs) compute-requires-16 place-requires-17 register-requires-34 register-requires-35 (λ c κs. search needs) place-requires-18 register-requires-36 (λ c κs. search needs) (λ c κs. search needs) place-requires-19 register-requires-37 register-requires-38 compute-requires-17 place-requires-20 register-requires-39 register-requires-40 compute-requires-18 place-requires-21 register-requires-41 register-requires-42 compute-requires-19 place-requires-22 register-requires-43 compute-requires-20 place-requires-23 register-requires-44 compute-requires-21 place-requires-24 register-requires-45 compute-requires-22 place-requires-25 register-requires-46 register-requires-47 compute-requires-23 place-requires-26 register-requires-48 register-requires-49 compute-requires-24 place-requires-27 register-requires-50 register-requires-51 compute-requires-25 place-requires-28 register-requires-52 register-requires-53 compute-requires-26 place-requires-29 register-requires-54 register-requires-55 compute-requires-27 place-requires-30 register-requires-56 register-requires-57 compute-requires-28 place-requires-31 register-requires-58 register-requires-59 compute-requires-29 place-requires-32 register-requires-60 register-requires-61 compute-requires-30 (λ c κs. search needs) register-requires-62 (λ c. search needs) cell-requires (λ c κs. search needs) register-requires-63 (λ c. search needs) (λ c κs. search needs) place-requires-33 register-requires-64 (λ c κs. search needs) (λ c κs. search needs) place-requires-34 (λ c κs. search needs) (λ c κs. search needs) place-requires-35 register-requires-65 (λ c κs. search needs) place-requires-36 (λ c. search needs) (λ c κs. search needs) (λ c κs. search needs) register-requires-66 register-requires-67 (λ c κs. search needs) register-requires-68 (λ c κs. search needs) place-requires-37 register-requires-69 (λ c κs. search needs) place-requires-38 register-requires-70 (λ c κs. search needs) register-requires-71 register-requires-72 (λ c κs. search needs) register-requires-73 (λ c κs. search needs) (λ c κs. search needs) (λ c. search needs) (λ c κs. search needs) (λ c. search needs) (λ c κs. search needs) register-requires-74 (λ c. search needs) (λ c κs. search needs) register-requires-75 (λ c. search needs) (λ c κs. search needs) (λ c. search needs) (λ c κs. search needs) register-requires-76 (λ c. search needs) (λ c κs. search needs) place-requires-39 (λ c κs. search needs) (λ c κs. search needs) (λ c κs. search needs) cell-requires-2 (λ c κs. search needs) (λ c κs. search needs) (λ c κs. search needs) (λ c κs. search needs) returns returns-2 returns-3 returns-4 returns-5 returns-6 returns-7 returns-8 returns-9 returns-10 returns-11 returns-12 returns-13 returns-14 returns-15 returns-16 returns-17 returns-18 returns-19 returns-20 returns-21 returns-22 returns-23 returns-24 returns-25 returns-26 returns-27 returns-28 returns-29 returns-30 returns-31 returns-32 returns-33 returns-34 returns-35 returns-36 returns-37 returns-38 returns-39 returns-40 returns-41 returns-42 returns-43 returns-44 returns-45 returns-46 returns-47 returns-48 returns-49 returns-50 returns-51 returns-52 returns-53 returns-54 returns-55 returns-56 returns-57 returns-58 returns-59 returns-60 returns-61 returns-62 returns-63 returns-64 returns-65)
