@@ -13,7 +13,8 @@ pub struct Subject {
     pub case: fn(&mut Pair, &mut Random) -> Result<(), String>,
 }
 
-pub const SUBJECTS: [Subject; 8] = [
+pub const SUBJECTS: [Subject; 9] = [
+    Subject { name: "configs", weight: 30, case: configs_case },
     Subject { name: "words", weight: 60, case: words_case },
     Subject { name: "states", weight: 60, case: states_case },
     Subject { name: "sheets", weight: 60, case: sheets_case },
@@ -40,6 +41,22 @@ fn config(r: &mut Random, damaged: u32) -> (Vec<u32>, Config) {
         configs::damage(r, &mut words);
     }
     (words, lawful)
+}
+
+/// Lawful configurations damaged in a field or two, given to the call that looks at nothing else.
+fn configs_case(pair: &mut Pair, r: &mut Random) -> Result<(), String> {
+    let size = if r.chance(50) { Size::Small } else { Size::Large };
+    let lawful = configs::lawful(r, size);
+    let ret = 0xf000_0000;
+    if pair.read(&lawful, ret, &[0; 6])?.0 != 0 {
+        return Err(format!("RET cannot be read under {lawful:?}"));
+    }
+    for _ in 0..16 {
+        let mut damaged = lawful.clone();
+        configs::damage(r, &mut damaged);
+        pair.read(&damaged, ret, &[0; 6])?;
+    }
+    Ok(())
 }
 
 fn words_case(pair: &mut Pair, r: &mut Random) -> Result<(), String> {

@@ -38,12 +38,24 @@ const BYTE_GUARD: u8 = 0xb5;
 /// How often each call answered each number.
 pub type Counts = BTreeMap<&'static str, BTreeMap<u32, u64>>;
 
+/// What demand 3's cases came to.
+#[derive(Clone, Copy, Debug, Default)]
+pub struct DemandSeen {
+    /// Programs that passed the check, and of them those whose stack reached the level at address 0, where that is above 0.
+    pub programs: u64,
+    pub reached: u64,
+    /// Calls and steps in them.
+    pub calls: u64,
+    pub steps: u64,
+}
+
 /// Both sides, and what was seen so far.
 pub struct Pair<'a> {
     pub model: &'a dyn Calls,
     pub library: &'a dyn Calls,
     pub counts: Counts,
     pub compared: u64,
+    pub demand: DemandSeen,
 }
 
 /// Says in which place two lists differ first.
@@ -62,7 +74,7 @@ type Differences = Vec<Option<String>>;
 
 impl<'a> Pair<'a> {
     pub fn new(model: &'a dyn Calls, library: &'a dyn Calls) -> Pair<'a> {
-        Pair { model, library, counts: Counts::new(), compared: 0 }
+        Pair { model, library, counts: Counts::new(), compared: 0, demand: DemandSeen::default() }
     }
 
     /// Counts the comparison; a difference is said with what was given.

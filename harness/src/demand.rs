@@ -25,6 +25,8 @@ pub fn case(pair: &mut Pair, r: &mut Random) -> Result<(), String> {
     }
     let level = answers[0];
     let mut lists = states::lists(r, &c, program.image.clone());
+    let mut deepest = 0;
+    pair.demand.programs += 1;
     for _ in 0..r.from_to(2, 12) {
         let budget = r.chance(60).then(|| states::budget(r));
         let before = lists.clone();
@@ -42,16 +44,21 @@ pub fn case(pair: &mut Pair, r: &mut Random) -> Result<(), String> {
                 told()
             ));
         }
+        deepest = deepest.max(u64::from(lists.machine[7]));
+        pair.demand.calls += 1;
+        pair.demand.steps += if budget.is_some() { advanced.answers[0] } else { u64::from(number == 0) };
         if let Some(budget) = budget.filter(|&budget| budget <= step::BUDGET_LIMIT) {
-            by_single_steps(&c, &before, &lists, budget, level, &advanced.answers)
+            let within = by_single_steps(&c, &before, &lists, budget, level, &advanced.answers)
                 .map_err(|how| format!("demand 3: {how}\n  given: {}", told()))?;
+            deepest = deepest.max(within);
         }
     }
+    pair.demand.reached += u64::from(level > 0 && deepest == level);
     Ok(())
 }
 
-/// A run is its steps one by one, and the stack stays within its level all the way.
-fn by_single_steps(c: &Config, before: &Lists, after: &Lists, budget: u64, level: u64, answers: &[u64]) -> Result<(), String> {
+/// A run is its steps one by one, and the stack stays within its level all the way. Answers the most that it held.
+fn by_single_steps(c: &Config, before: &Lists, after: &Lists, budget: u64, level: u64, answers: &[u64]) -> Result<u64, String> {
     let mut lists = before.clone();
     let env = Env { config: c, image: &before.image, inputs: &before.inputs };
     let mut lent = machine::Lists {
@@ -72,5 +79,5 @@ fn by_single_steps(c: &Config, before: &Lists, after: &Lists, budget: u64, level
     if ran.cycles < 2 * ran.steps || ran.cycles > 3 * ran.steps {
         return Err("the cycles do not lie between 2 and 3 times the steps".to_string());
     }
-    Ok(())
+    Ok(u64::from(ran.deepest))
 }

@@ -4,6 +4,7 @@ pub mod calls;
 pub mod cases;
 pub mod compare;
 pub mod demand;
+pub mod document;
 pub mod generate;
 pub mod json;
 pub mod model;
@@ -20,3 +21,6 @@ pub mod yam;
 pub const LIBRARY: Option<&dyn calls::Calls> = Some(&yam::Library);
 #[cfg(not(any(feature = "library", feature = "plain")))]
 pub const LIBRARY: Option<&dyn calls::Calls> = None;
+
+/// What it is called in print.
+pub const LIBRARY_NAME: &str = if cfg!(feature = "plain") { "plain programs, in the library's place" } else { "library" };

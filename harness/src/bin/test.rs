@@ -15,7 +15,7 @@ use yam_harness::cases::{Subject, SUBJECTS};
 use yam_harness::compare::{Counts, Pair};
 use yam_harness::model::Model;
 use yam_harness::random::Random;
-use yam_harness::{vectors, LIBRARY};
+use yam_harness::{document, vectors, LIBRARY, LIBRARY_NAME};
 
 /// How many differences are printed, and how much of each.
 const SHOWN: usize = 5;
@@ -68,17 +68,21 @@ fn main() -> ExitCode {
 
 /// True where nothing differs.
 fn test(options: &Options) -> Result<bool, String> {
-    let mut good = true;
+    let mut good = run_document("model", &Model);
+    if let Some(library) = LIBRARY {
+        good &= run_document(LIBRARY_NAME, library);
+    }
     if let Some(folder) = &options.vectors {
         good &= run_vectors("model", &Model, folder)?;
         if let Some(library) = LIBRARY {
-            good &= run_vectors("library", library, folder)?;
+            good &= run_vectors(LIBRARY_NAME, library, folder)?;
         }
     }
     let Some(library) = LIBRARY else {
         println!("the library was left out of this build: nothing is compared with the model");
         return if options.vectors.is_some() { Ok(good) } else { Err("nothing was done".to_string()) };
     };
+    println!("the model beside the {LIBRARY_NAME}:");
     let mut pair = Pair::new(&Model, library);
     let differences = match &options.case {
         Some((subject, seed)) => one_case(&mut pair, subject, *seed)?,
@@ -90,6 +94,11 @@ fn test(options: &Options) -> Result<bool, String> {
         println!("difference {}: {shown}{}", index + 1, if whole { "" } else { " ..." });
     }
     print_counts(&pair.counts);
+    let seen = pair.demand;
+    println!(
+        "demand 3: {} programs passed, {} of them reached the level at 0 (where above 0), {} calls, {} steps",
+        seen.programs, seen.reached, seen.calls, seen.steps
+    );
     println!("{} comparisons, {} cases with a difference", pair.compared, differences.len());
     let met = options.case.is_some() || every_number_met(&pair.counts);
     Ok(good && met && differences.is_empty())
@@ -133,6 +142,15 @@ fn every_number_met(counts: &Counts) -> bool {
         println!("never answered: {missing:?}");
     }
     missing.is_empty()
+}
+
+fn run_document(name: &str, calls: &dyn Calls) -> bool {
+    let result = document::run(calls);
+    match &result {
+        Ok(()) => println!("document 01's cases, {name}: as it says"),
+        Err(how) => println!("document 01's cases, {name}: {how}"),
+    }
+    result.is_ok()
 }
 
 fn run_vectors(name: &str, calls: &dyn Calls, folder: &std::path::Path) -> Result<bool, String> {

@@ -31,11 +31,13 @@ pub fn passing(r: &mut Random, c: &Config) -> Program {
     let mut program = Program { image: vec![0; size as usize], sheet: vec![UNUSED; size as usize] };
     let stretches = stretches(r, size);
     let top = if r.chance(70) { c.stack_limit().min(stretches.len() as u32 - 1) } else { r.below(c.stack_limit() + 1) };
+    // Each subroutine one below the last, so that the stack can reach the level of main, or levels at random.
+    let stairs = r.chance(50);
     for (index, stretch) in stretches.iter().enumerate() {
         let (level, bits) = match index {
             0 => (top, 0),
-            _ if top == 0 => (0, SUBROUTINE),
-            _ => (r.below(top), SUBROUTINE),
+            _ if stairs => (top.saturating_sub(index as u32), SUBROUTINE),
+            _ => (r.below(top.max(1)), SUBROUTINE),
         };
         lay_out(r, c, &mut program, stretch.clone(), level as u8, bits);
     }
@@ -129,7 +131,11 @@ fn fill(r: &mut Random, c: &Config, program: &mut Program, stretches: &[Range<u3
         words::of_kind(r, c, Kind::Jump(condition), |i| i.value = target)
     };
     let last = address + 1 == stretch.end;
-    let calls = targets(&program.sheet, elsewhere, true, level - 1);
+    let mut calls = targets(&program.sheet, elsewhere, true, level - 1);
+    let next_lower = |&address: &u32| i32::from(program.sheet[address as usize] & 0x3f) == level - 1;
+    if r.chance(60) && calls.iter().any(next_lower) {
+        calls.retain(next_lower);
+    }
     program.image[at] = match r.below(100) {
         0..=59 if last && here.subroutine => words::of_kind(r, c, Kind::Return, |_| {}),
         60..=74 if last && here.subroutine => words::of_kind(r, c, Kind::ReturnLoad, |_| {}),
@@ -139,12 +145,12 @@ fn fill(r: &mut Random, c: &Config, program: &mut Program, stretches: &[Range<u3
             jump(r, condition)
         }
         18..=19 => jump(r, Condition::Always),
-        20..=39 if !calls.is_empty() => {
+        20..=49 if !calls.is_empty() => {
             let target = r.pick(&calls);
             words::of_kind(r, c, Kind::Call, |i| i.value = target)
         }
-        40..=42 if here.subroutine => words::of_kind(r, c, Kind::Return, |_| {}),
-        43..=44 if c.alu_spr == 1 => SPR_OFF,
+        50..=52 if here.subroutine => words::of_kind(r, c, Kind::Return, |_| {}),
+        53..=54 if c.alu_spr == 1 => SPR_OFF,
         _ => straight(r, c),
     };
 }
