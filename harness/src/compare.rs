@@ -61,7 +61,7 @@ pub struct Pair<'a> {
 /// Says in which place two lists differ first.
 fn list_difference<T: PartialEq + Debug>(name: &str, model: &[T], library: &[T]) -> Option<String> {
     let place = model.iter().zip(library).position(|(a, b)| a != b)?;
-    Some(format!("{name}[{place}]: model {:x?}, library {:x?}", model[place], library[place]))
+    Some(format!("{name}[{place}]: model {:#x?}, library {:#x?}", model[place], library[place]))
 }
 
 fn guarded_difference<T: PartialEq + Debug>(name: &str, model: &Guarded<T>, library: &Guarded<T>) -> Option<String> {

@@ -6,7 +6,7 @@
 //!   --vectors  runs outside vectors as well, through the model and through the library
 //!   --case     runs one case again, as a difference names it
 //!
-//! Exit status 1 on any difference, or where a number from 1 to 22 was never met.
+//! Exit status 1 on any difference, or where a call never answered a number that it can.
 
 use std::path::PathBuf;
 use std::process::ExitCode;
@@ -134,14 +134,33 @@ fn print_counts(counts: &Counts) {
     }
 }
 
+/// The numbers that each call can answer; 23 is none of them, since no text is that long.
+const POSSIBLE: [(&str, &[u32]); 10] = [
+    ("read", &[0, 1, 5, 6, 7]),
+    ("write", &[0, 1, 5, 6, 7]),
+    ("reset", &[0, 3]),
+    ("step", &[0, 1, 2, 3, 4, 5, 6, 7, 8, 9, 10, 11, 12, 13, 14, 15]),
+    ("run", &[0, 1, 2, 3, 4, 5, 6, 7, 8, 9, 10, 11, 12, 13, 14, 15, 16]),
+    ("check", &[0, 1, 2, 17]),
+    ("text", &[0, 1, 5, 6, 7, 18]),
+    ("list", &[0, 1, 2, 18]),
+    ("load", &[0, 1, 2, 19, 20, 21, 22]),
+    ("store", &[0, 1, 2, 19]),
+];
+
 fn every_number_met(counts: &Counts) -> bool {
-    let missing: Vec<u32> = (0..=22).filter(|n| !counts.values().any(|numbers| numbers.contains_key(n))).collect();
-    if missing.is_empty() {
-        println!("every number from 0 to 22 was answered");
-    } else {
-        println!("never answered: {missing:?}");
+    let mut met = true;
+    for (call, numbers) in POSSIBLE {
+        let seen = |number: &&u32| counts.get(call).is_some_and(|answered| answered.contains_key(number));
+        for number in numbers.iter().filter(|number| !seen(number)) {
+            println!("{call} never answered {number}");
+            met = false;
+        }
     }
-    missing.is_empty()
+    if met {
+        println!("every call answered every number that it can, 0 to 22");
+    }
+    met
 }
 
 fn run_document(name: &str, calls: &dyn Calls) -> bool {
