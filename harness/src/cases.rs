@@ -13,9 +13,10 @@ pub struct Subject {
     pub case: fn(&mut Pair, &mut Random) -> Result<(), String>,
 }
 
-pub const SUBJECTS: [Subject; 9] = [
+pub const SUBJECTS: [Subject; 10] = [
     Subject { name: "configs", weight: 30, case: configs_case },
     Subject { name: "words", weight: 60, case: words_case },
+    Subject { name: "sweep", weight: 1, case: sweep_case },
     Subject { name: "states", weight: 60, case: states_case },
     Subject { name: "sheets", weight: 60, case: sheets_case },
     Subject { name: "listings", weight: 30, case: listings_case },
@@ -88,6 +89,20 @@ fn words_case(pair: &mut Pair, r: &mut Random) -> Result<(), String> {
             if number != 0 || back != parts {
                 return Err(format!("reading {word:08x}, written from {parts:?}, gives {back:?} and {number}"));
             }
+        }
+    }
+    Ok(())
+}
+
+/// Sixteen values of bits 31 to 23 under one configuration: no lower bit set, each of them alone, and the codes 00 to 1F in 15-8.
+fn sweep_case(pair: &mut Pair, r: &mut Random) -> Result<(), String> {
+    let (config, _) = config(r, 0);
+    let from = 16 * r.below(32);
+    for top in from..from + 16 {
+        let alone = (0..23).map(|bit| 1 << bit);
+        let codes = (0..32).map(|code| code << 8);
+        for low in std::iter::once(0).chain(alone).chain(codes) {
+            pair.read(&config, top << 23 | low, &[0; 6])?;
         }
     }
     Ok(())
