@@ -119,7 +119,7 @@ fn image(r: &mut Random, c: &Config, special: bool) -> Vec<u32> {
     (0..c.im_size)
         .map(|_| match r.below(10) {
             _ if special && r.chance(60) => words::special(r, c),
-            0 => words::any(r, c),
+            0 | 1 => words::any(r, c),
             _ => words::readable(r, c),
         })
         .collect()

@@ -71,12 +71,38 @@ pub fn readable(r: &mut Random, c: &Config) -> u32 {
     assemble(&parts_of(r, c, row))
 }
 
+/// The first number that is too great for a field; None where only its width bounds it.
+fn limit(c: &Config, field: Field) -> Option<u32> {
+    match field {
+        Field::Destination | Field::Source => Some(c.reg_size),
+        Field::Unit => Some(64),
+        Field::Byte => Some(c.reg_width / 8),
+        Field::Count => Some(if c.alu_level == 0 { 2 } else { 16 }),
+        Field::Address => Some(c.dm_size),
+        Field::Flag | Field::Immediate | Field::Target => None,
+    }
+}
+
+/// A word with one field at its limit or a little past it, where the field has room for that.
+fn past_limit(r: &mut Random, c: &Config) -> u32 {
+    let row = row(r);
+    let mut instruction = parts_of(r, c, row);
+    if let Some(&field) = rows()[row].fields.get(r.below(4) as usize) {
+        let past = limit(c, field).map(|limit| limit + if r.chance(70) { 0 } else { r.below(limit.max(1)) });
+        if let Some(past) = past.filter(|&past| past < 1 << place(field).1) {
+            set(&mut instruction, field, past);
+        }
+    }
+    assemble(&instruction)
+}
+
 /// A word that may be anything.
 pub fn any(r: &mut Random, c: &Config) -> u32 {
     let word = readable(r, c);
     match r.below(20) {
-        0..=11 => word,
-        12..=15 => word ^ 1 << r.below(32),
+        0..=9 => word,
+        10..=12 => past_limit(r, c),
+        13..=15 => word ^ 1 << r.below(32),
         16 => word ^ 1 << r.below(32) ^ 1 << r.below(32),
         17 => word & 0xffff_0000 | r.below(0x1_0000),
         18 => r.below(512) << 23 | r.below(1 << 7) << 16 | r.below(1 << 7),

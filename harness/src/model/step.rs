@@ -218,7 +218,7 @@ fn carry_out(env: &Env, i: &Instruction, m: &mut Machine, lists: &mut Lists) -> 
             }
         }
         Kind::CallBank => {
-            let context = (m.wp / 16 << 26) + (m.n << 21) + (m.z << 20) + (m.imask << 16) + next;
+            let context = ((m.wp / 16) << 26) + (m.n << 21) + (m.z << 20) + (m.imask << 16) + next;
             m.wp = 16 * i.destination;
             written = Some((0, context));
             m.pc = i.value;
