@@ -2,7 +2,7 @@
 
 use super::words;
 use crate::model::config::Config;
-use crate::model::rows::{rows, Condition, Kind};
+use crate::model::rows::{rows, Condition, Kind, Operand};
 use crate::model::sheet::mark;
 use crate::model::step::{reads_port, writes_port};
 use crate::model::words::read;
@@ -220,6 +220,7 @@ pub fn damage(r: &mut Random, c: &Config, program: &mut Program) {
                 let from = place(r, program.image.len());
                 program.image[at] = program.image[from];
             }
+            24..=26 if program.image.len() > 1 => ports(r, c, &mut program.image),
             24..=30 => {
                 let at = place(r, program.sheet.len());
                 program.sheet[at] ^= 1 << r.below(8);
@@ -229,6 +230,18 @@ pub fn damage(r: &mut Random, c: &Config, program: &mut Program) {
                 program.sheet[at] = r.pick(&[0, 1, 2, 3, 62, 63, 64, 65, 66, 128, 129, 191, 192, 193, 254, 255]);
             }
         }
+    }
+}
+
+/// A port write and a port read next to it, half of the time one that cannot be read.
+fn ports(r: &mut Random, c: &Config, image: &mut [u32]) {
+    let at = r.below(image.len() as u32 - 1) as usize;
+    let write = r.pick(&[Kind::PortWrite(Operand::Register), Kind::PortWrite(Operand::Signed), Kind::PortReadModifyWrite]);
+    let read = r.pick(&[Kind::PortRead, Kind::PortReadModifyWrite]);
+    image[at] = words::of_kind(r, c, write, |_| {});
+    image[at + 1] = words::of_kind(r, c, read, |_| {});
+    if r.chance(50) {
+        image[at + 1] ^= 1 << r.from_to(7, 14);
     }
 }
 
@@ -244,8 +257,8 @@ pub fn tiny(r: &mut Random, c: &Config) -> Program {
         Kind::SpecialOff,
         Kind::PortRead,
         Kind::PortReadModifyWrite,
-        Kind::PortWrite(crate::model::rows::Operand::Register),
-        Kind::Mov(crate::model::rows::Operand::Register),
+        Kind::PortWrite(Operand::Register),
+        Kind::Mov(Operand::Register),
     ];
     let mut program = Program { image: Vec::new(), sheet: Vec::new() };
     for _ in 0..c.im_size {
