@@ -6,7 +6,6 @@ use crate::model::config::Config;
 use crate::model::machine::Machine;
 use crate::plain::{self, PlainMachine, PlainState};
 use crate::random::Random;
-use std::time::Instant;
 
 /// W = 32, level 2, 16 registers in four banks, every option on.
 fn config(im_size: u32, dm_size: u32) -> [u32; 19] {
@@ -80,6 +79,22 @@ fn steps_programs(dm_size: u32) -> Vec<(&'static str, Vec<u32>)> {
     vec![("arithmetic", arithmetic), ("calls", calls), ("mover", mover), ("ports", ports)]
 }
 
+/// Processor time of this thread in nanoseconds: what other work on the machine takes away does not count.
+fn processor_time() -> f64 {
+    #[repr(C)]
+    struct Timespec {
+        seconds: i64,
+        nanoseconds: i64,
+    }
+    extern "C" {
+        fn clock_gettime(clock: i32, time: *mut Timespec) -> i32;
+    }
+    const THREAD_CPUTIME: i32 = 3;
+    let mut time = Timespec { seconds: 0, nanoseconds: 0 };
+    assert_eq!(unsafe { clock_gettime(THREAD_CPUTIME, &mut time) }, 0, "the clock is there");
+    time.seconds as f64 * 1e9 + time.nanoseconds as f64
+}
+
 /// Times of the library and of the plain program, in nanoseconds a unit, round by round.
 #[derive(Default)]
 struct Times {
@@ -105,9 +120,9 @@ impl Times {
     /// One round: each once, the first of them by turns.
     fn round(&mut self, units: f64, library: &mut dyn FnMut(), plain: &mut dyn FnMut()) {
         let time = |work: &mut dyn FnMut()| {
-            let start = Instant::now();
+            let start = processor_time();
             work();
-            start.elapsed().as_nanos() as f64 / units
+            (processor_time() - start) / units
         };
         if self.plain.len() % 2 == 0 {
             self.library.push(time(library));
@@ -267,7 +282,7 @@ fn line(name: &str, unit: &str, times: &Times) {
 
 /// Times everything and prints it.
 pub fn report<L: Calls>(library: &L, rounds: usize) -> Result<(), String> {
-    println!("{rounds} rounds; a run is 1,000,000 steps");
+    println!("the {} beside plain C, {rounds} rounds, processor time; a run is 1,000,000 steps", crate::LIBRARY_NAME);
     let (small, large) = (steps_programs(SMALL), steps_programs(LARGE));
     for ((name, at_small), (_, at_large)) in small.into_iter().zip(large) {
         let mut pair = (StepsBench::new(at_small, SMALL), StepsBench::new(at_large, LARGE));
