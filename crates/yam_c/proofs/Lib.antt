@@ -1,0 +1,3 @@
+pub mod Storing
+pub mod Words
+pub mod Machines
