@@ -117,6 +117,33 @@ pub fn config_from(flat: &[u32]) -> Config
     }
 }
 
+pub fn config_into(c: Config, flat: &mut [u32])
+    ensures { λ _. ⌜ now (flat .exit) ≡ stored (now (flat .entry)) 0 (configWords c) ⌝ }
+{
+    let words = [
+        c.imsize,
+        c.regwidth,
+        c.regsize,
+        c.rmsize,
+        c.pcstack,
+        c.dmsize,
+        c.dmpipe,
+        c.alulevel,
+        c.alumult,
+        c.aluspr,
+        c.iopif,
+        c.ioprmw,
+        c.yamclk,
+        c.yamsreg3,
+        c.alu3op,
+        c.irqif,
+        c.copmsize,
+        c.imwidth,
+        c.yamdbg,
+    ];
+    store(flat, 0, &words);
+}
+
 fn instruction_in(flat: &[u32]) -> Instruction
     ensures { λ r. ⌜ r ≡ instructionIn (now (flat .entry)) ⌝ }
 {
