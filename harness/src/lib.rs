@@ -10,6 +10,7 @@ pub mod json;
 pub mod model;
 pub mod plain;
 pub mod random;
+pub mod refusals;
 pub mod speed;
 pub mod vector_parts;
 pub mod vectors;

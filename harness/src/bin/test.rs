@@ -15,7 +15,7 @@ use yam_harness::cases::{Subject, SUBJECTS};
 use yam_harness::compare::{Counts, Pair};
 use yam_harness::model::Model;
 use yam_harness::random::Random;
-use yam_harness::{document, vectors, LIBRARY, LIBRARY_NAME};
+use yam_harness::{document, refusals, vectors, LIBRARY, LIBRARY_NAME};
 
 /// How many differences are printed, and how much of each.
 const SHOWN: usize = 5;
@@ -68,9 +68,9 @@ fn main() -> ExitCode {
 
 /// True where nothing differs.
 fn test(options: &Options) -> Result<bool, String> {
-    let mut good = run_document("model", &Model);
+    let mut good = run_document("model", &Model) & run_refusals("model", &Model) & refusals_name_calls();
     if let Some(library) = LIBRARY {
-        good &= run_document(LIBRARY_NAME, library);
+        good &= run_document(LIBRARY_NAME, library) & run_refusals(LIBRARY_NAME, library);
     }
     if let Some(folder) = &options.vectors {
         good &= run_vectors("model", &Model, folder)?;
@@ -170,6 +170,36 @@ fn run_document(name: &str, calls: &dyn Calls) -> bool {
         Err(how) => println!("document 01's cases, {name}: {how}"),
     }
     result.is_ok()
+}
+
+fn run_refusals(name: &str, calls: &dyn Calls) -> bool {
+    let result = refusals::run(calls);
+    match &result {
+        Ok(count) => println!("the examples of docs/refusals.md, {name}: all {count} as they say"),
+        Err(how) => println!("the examples of docs/refusals.md, {name}: {how}"),
+    }
+    result.is_ok()
+}
+
+/// Whether docs/refusals.md names, beside each number, exactly the calls that can answer it.
+fn refusals_name_calls() -> bool {
+    let lines = match refusals::lines() {
+        Ok(lines) => lines,
+        Err(how) => {
+            println!("{how}");
+            return false;
+        }
+    };
+    let mut right = true;
+    for line in lines {
+        let able: Vec<&str> =
+            POSSIBLE.iter().filter(|(_, numbers)| numbers.contains(&line.number)).map(|(call, _)| *call).collect();
+        if line.calls != able {
+            println!("docs/refusals.md, {}: calls {:?}, and they are {able:?}", line.number, line.calls);
+            right = false;
+        }
+    }
+    right
 }
 
 fn run_vectors(name: &str, calls: &dyn Calls, folder: &std::path::Path) -> Result<bool, String> {
