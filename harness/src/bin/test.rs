@@ -156,9 +156,14 @@ fn every_number_met(counts: &Counts) -> bool {
             println!("{call} never answered {number}");
             met = false;
         }
+        for number in counts.get(call).into_iter().flat_map(|answered| answered.keys()).filter(|number| !numbers.contains(number))
+        {
+            println!("{call} answered {number}, which it is not known to");
+            met = false;
+        }
     }
     if met {
-        println!("every call answered every number that it can, 0 to 22");
+        println!("every call answered every number that it can, 0 to 22, and no other");
     }
     met
 }
