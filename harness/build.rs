@@ -30,6 +30,7 @@ fn main() {
     let out = PathBuf::from(std::env::var_os("OUT_DIR").expect("cargo sets OUT_DIR"));
     let has = |feature: &str| std::env::var_os(format!("CARGO_FEATURE_{feature}")).is_some();
     println!("cargo:rerun-if-changed=plain");
+    println!("cargo:rerun-if-changed=../include");
     compile_plain(&out, has("PLAIN"));
     if has("LIBRARY") && !has("PLAIN") {
         let folder = Path::new("../target/staticlib");

@@ -1,4 +1,6 @@
-/* The calls of the library's C interface over the plain programs: stands in the library's place to try the harness itself. */
+/* The calls of the library's C interface over the plain programs: stands in the library's place to try the harness itself. With the
+   header included, the compiler compares its declarations with these definitions. */
+#include "../../include/yam.h"
 #include "plain.h"
 #include "plain_kinds.h"
 #include <string.h>
@@ -25,7 +27,7 @@ uint32_t yam_read(const uint32_t *config, size_t config_length, uint32_t word, u
     return number;
 }
 
-#define ROWS 131
+#define ROWS YAM_ROW_COUNT
 
 /* The bits that choose each row, found by going through all of them; supported rows only. */
 static const uint32_t *row_bits(void) {
