@@ -1,0 +1,4 @@
+pub mod Storing
+pub mod Words
+pub mod Machines
+pub mod Calls

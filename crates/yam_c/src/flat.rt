@@ -1,0 +1,295 @@
+// Records as flat arrays of 32-bit words (specs/Flat.antt).
+ghost use mathlib.Core.Path.{_≡_};
+ghost use mathlib.Core.List.{[], _∷_};
+ghost use Prim.Native.Nat.{_+_, _<_, _≤_};
+ghost use lib.ListN.{length, getD, set, drop};
+ghost use Rattle.laws.specs.Test.{test, below};
+ghost use Rattle.yam_c.specs.Flat.{stored, low, high, wide, configWords, configOf, configIn, instructionWords, instructionIn, instructionOf, coreWords, coreIn, stackIn, shaped, machineWords, machineOf, updated};
+use state::Core;
+use state::Machine;
+use words::Config;
+use words::Instruction;
+
+// Word i, or 0 past the end.
+fn cell(flat: &[u32], i: usize) -> u32
+    ensures { λ r. ⌜ r ≡ getD (now (flat .entry)) i 0 ⌝ }
+{
+    if i < flat.len() { flat[i] } else { 0 }
+}
+
+// Stores v at place i, if that is there.
+fn put(flat: &mut [u32], i: usize, v: u32)
+    ensures { λ _. ⌜ now (flat .exit) ≡ set (now (flat .entry)) i v ⌝ }
+{
+    if i < flat.len() {
+        flat[i] = v;
+    }
+}
+
+// Stores the values from a place on, as far as they fit.
+fn store(flat: &mut [u32], at: usize, values: &[u32])
+    requires { ⌜ (at ≤ 100) × (length (now values) ≤ 100) ⌝ }
+    ensures { λ _. ⌜ now (flat .exit) ≡ stored (now (flat .entry)) at (now (values .entry)) ⌝ }
+{
+    let mut i = 0;
+    while i < values.len() {
+        put(flat, at + i, values[i]);
+        i += 1;
+    }
+}
+
+// The same place in a list of answers.
+fn put_answer(answers: &mut [u64], i: usize, v: u64)
+    ensures { λ _. ⌜ now (answers .exit) ≡ set (now (answers .entry)) i v ⌝ }
+{
+    if i < answers.len() {
+        answers[i] = v;
+    }
+}
+
+// The number of two words, low word first, and its words.
+fn wide(low: u32, high: u32) -> usize
+    ensures { λ r. ⌜ r ≡ wide low high ⌝ }
+{
+    low as usize + high as usize * 4294967296
+}
+
+fn low(n: u64) -> u32
+    ensures { λ r. ⌜ r ≡ low n ⌝ }
+{
+    (n % 4294967296) as u32
+}
+
+fn high(n: u64) -> u32
+    ensures { λ r. ⌜ r ≡ high n ⌝ }
+{
+    (n / 4294967296) as u32
+}
+
+// What a call answers beside its number, one value or two.
+pub fn answer(answers: &mut [u64], a: u64)
+    ensures { λ _. ⌜ now (answers .exit) ≡ stored (now (answers .entry)) 0 (a ∷ []) ⌝ }
+{
+    put_answer(answers, 0, a);
+}
+
+pub fn answer_two(answers: &mut [u64], a: u64, b: u64)
+    ensures { λ _. ⌜ now (answers .exit) ≡ stored (now (answers .entry)) 0 (a ∷ b ∷ []) ⌝ }
+{
+    put_answer(answers, 0, a);
+    put_answer(answers, 1, b);
+}
+
+fn config_in(flat: &[u32]) -> Config
+    ensures { λ r. ⌜ r ≡ configIn (now (flat .entry)) ⌝ }
+{
+    Config {
+        imsize: cell(flat, 0),
+        regwidth: cell(flat, 1),
+        regsize: cell(flat, 2),
+        rmsize: cell(flat, 3),
+        pcstack: cell(flat, 4),
+        dmsize: cell(flat, 5),
+        dmpipe: cell(flat, 6),
+        alulevel: cell(flat, 7),
+        alumult: cell(flat, 8),
+        aluspr: cell(flat, 9),
+        iopif: cell(flat, 10),
+        ioprmw: cell(flat, 11),
+        yamclk: cell(flat, 12),
+        yamsreg3: cell(flat, 13),
+        alu3op: cell(flat, 14),
+        irqif: cell(flat, 15),
+        copmsize: cell(flat, 16),
+        imwidth: cell(flat, 17),
+        yamdbg: cell(flat, 18),
+    }
+}
+
+// The configuration in 19 words; of another length one that is all zeros, and so unlawful.
+pub fn config_from(flat: &[u32]) -> Config
+    ensures { λ r. ⌜ r ≡ configOf (now (flat .entry)) ⌝ }
+{
+    if flat.len() == 19 {
+        config_in(flat)
+    } else {
+        config_in(&flat[0..0])
+    }
+}
+
+pub fn config_into(c: Config, flat: &mut [u32])
+    ensures { λ _. ⌜ now (flat .exit) ≡ stored (now (flat .entry)) 0 (configWords c) ⌝ }
+{
+    let words = [
+        c.imsize,
+        c.regwidth,
+        c.regsize,
+        c.rmsize,
+        c.pcstack,
+        c.dmsize,
+        c.dmpipe,
+        c.alulevel,
+        c.alumult,
+        c.aluspr,
+        c.iopif,
+        c.ioprmw,
+        c.yamclk,
+        c.yamsreg3,
+        c.alu3op,
+        c.irqif,
+        c.copmsize,
+        c.imwidth,
+        c.yamdbg,
+    ];
+    store(flat, 0, &words);
+}
+
+fn instruction_in(flat: &[u32]) -> Instruction
+    ensures { λ r. ⌜ r ≡ instructionIn (now (flat .entry)) ⌝ }
+{
+    Instruction {
+        row: cell(flat, 0),
+        flag: cell(flat, 1),
+        destination: cell(flat, 2),
+        source: cell(flat, 3),
+        number: cell(flat, 4),
+        value: cell(flat, 5),
+    }
+}
+
+// The instruction in 6 words; of another length one that is refused with 7.
+pub fn instruction_from(flat: &[u32]) -> Instruction
+    ensures { λ r. ⌜ r ≡ instructionOf (now (flat .entry)) ⌝ }
+{
+    if flat.len() == 6 {
+        instruction_in(flat)
+    } else {
+        Instruction {
+            row: 0,
+            flag: 0,
+            destination: 0,
+            source: 4294967295,
+            number: 0,
+            value: 0,
+        }
+    }
+}
+
+pub fn instruction_into(i: Instruction, flat: &mut [u32])
+    ensures { λ _. ⌜ now (flat .exit) ≡ stored (now (flat .entry)) 0 (instructionWords i) ⌝ }
+{
+    let words = [i.row, i.flag, i.destination, i.source, i.number, i.value];
+    store(flat, 0, &words);
+}
+
+// Whether the words from a place on are all zero.
+fn zeros_from(flat: &[u32], from: usize) -> bool
+    ensures { λ r. ⌜ r ≡ below 1 (drop from (now (flat .entry))) ⌝ }
+{
+    let mut i = from;
+    while i < flat.len() {
+        if flat[i] != 0 {
+            return false;
+        }
+        i += 1;
+    }
+    true
+}
+
+// Whether the words have the form of a machine: a hundred, the last twenty zero.
+fn machine_shaped(flat: &[u32]) -> bool
+    ensures { λ r. ⌜ r ≡ test (shaped (now (flat .entry))) ⌝ }
+{
+    (flat.len() == 100) & zeros_from(flat, 80)
+}
+
+fn core_in(flat: &[u32]) -> Core
+    ensures { λ r. ⌜ r ≡ coreIn (now (flat .entry)) ⌝ }
+{
+    Core {
+        pc: cell(flat, 0) as usize,
+        wp: cell(flat, 1) as usize,
+        rx: cell(flat, 2) as usize,
+        ry: cell(flat, 3) as usize,
+        n: cell(flat, 4) as u64,
+        z: cell(flat, 5) as u64,
+        spr7: cell(flat, 6) as u64,
+        depth: cell(flat, 7) as usize,
+        imask: cell(flat, 8) as u64,
+        saved: cell(flat, 9) as u64,
+        mode: cell(flat, 10) as u64,
+        posted: cell(flat, 11) as u64,
+        port: cell(flat, 12) as u64,
+        taken: wide(cell(flat, 13), cell(flat, 14)),
+        logged: wide(cell(flat, 15), cell(flat, 16)),
+    }
+}
+
+fn stack_in(flat: &[u32]) -> [u32; 63]
+    requires { ⌜ length (now flat) ≡ 100 ⌝ }
+    ensures { λ r. ⌜ r ≡ stackIn (now (flat .entry)) ⌝ }
+{
+    let mut stack = [0u32; 63];
+    store(&mut stack, 0, &flat[17..80]);
+    stack
+}
+
+// The machine in a hundred words; of another length, or with one of the last twenty not zero, one that is outside its ranges.
+pub fn machine_from(flat: &[u32]) -> Machine
+    ensures { λ r. ⌜ r ≡ machineOf (now (flat .entry)) ⌝ }
+{
+    if machine_shaped(flat) {
+        let core = core_in(flat);
+        let stack = stack_in(flat);
+        return Machine { core, stack };
+    }
+    let m = Machine::reset();
+    let mut core = m.core;
+    core.pc = Machine::PC_LIMIT;
+    let stack = m.stack;
+    Machine { core, stack }
+}
+
+fn core_words(m: Core) -> [u32; 17]
+    ensures { λ r. ⌜ r ≡ coreWords m ⌝ }
+{
+    [
+        low(m.pc as u64),
+        low(m.wp as u64),
+        low(m.rx as u64),
+        low(m.ry as u64),
+        low(m.n),
+        low(m.z),
+        low(m.spr7),
+        low(m.depth as u64),
+        low(m.imask),
+        low(m.saved),
+        low(m.mode),
+        low(m.posted),
+        low(m.port),
+        low(m.taken as u64),
+        high(m.taken as u64),
+        low(m.logged as u64),
+        high(m.logged as u64),
+    ]
+}
+
+pub fn machine_into(m: Machine, flat: &mut [u32])
+    ensures { λ _. ⌜ now (flat .exit) ≡ stored (now (flat .entry)) 0 (machineWords (m .core) (m .stack)) ⌝ }
+{
+    let core = core_words(m.core);
+    store(flat, 0, &core);
+    let stack = m.stack;
+    store(flat, 17, &stack);
+    let zeros = [0u32; 20];
+    store(flat, 80, &zeros);
+}
+
+// Writes the machine where it changed.
+pub fn update(changed: bool, m: Machine, flat: &mut [u32])
+    ensures { λ _. ⌜ now (flat .exit) ≡ updated changed (m .core) (m .stack) (now (flat .entry)) ⌝ }
+{
+    if changed {
+        machine_into(m, flat);
+    }
+}

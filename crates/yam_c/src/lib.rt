@@ -1,0 +1,244 @@
+// The C interface: exported functions on numbers and slices; a slice is a pointer and its length. include/yam.h declares them.
+ghost use mathlib.Core.Path.{_≡_};
+ghost use Rattle.words.specs.Answers.{readingOf, writingOf};
+ghost use Rattle.certificate.specs.Answers.{answerOf};
+ghost use Rattle.yam_c.specs.Calls.{left, readLeft, readCall, writeLeft, writeCall, resetCall, moved, stepCall, runCall, checkLeft, checkCall, printed, textPrinted, listCall, filled, loadCall, storeCall};
+
+mod flat;
+
+use certificate::Checked;
+use flat::answer;
+use flat::answer_two;
+use flat::config_from;
+use flat::config_into;
+use flat::instruction_from;
+use flat::instruction_into;
+use flat::machine_from;
+use flat::machine_into;
+use flat::update;
+use state::Machine;
+use words::Reading;
+use words::Writing;
+
+// What yam_read answers and leaves, once the word is read.
+fn read_into(r: Reading, instruction: &mut [u32]) -> u32
+    ensures { λ n. ⌜ left n (now (instruction .exit)) ≡ readLeft (readingOf r) (now (instruction .entry)) ⌝ }
+{
+    match r {
+        Reading::Refused(x) => x.number(),
+        Reading::Decoded(i) => {
+            if instruction.len() != 6 {
+                return 7;
+            }
+            instruction_into(i, instruction);
+            0
+        }
+    }
+}
+
+// What yam_write answers and leaves, once the instruction is written.
+fn write_into(w: Writing, answers: &mut [u64]) -> u32
+    ensures { λ n. ⌜ left n (now (answers .exit)) ≡ writeLeft (writingOf w) (now (answers .entry)) ⌝ }
+{
+    match w {
+        Writing::Refused(x) => {
+            answer(answers, 0);
+            x.number()
+        }
+        Writing::Encoded(word) => {
+            answer(answers, word as u64);
+            0
+        }
+    }
+}
+
+// What yam_check answers and leaves, once the certificate is checked.
+fn check_into(r: Checked, answers: &mut [u64]) -> u32
+    ensures { λ n. ⌜ left n (now (answers .exit)) ≡ checkLeft (answerOf r) (now (answers .entry)) ⌝ }
+{
+    match r {
+        Checked::Passed(level) => {
+            answer_two(answers, level as u64, 0);
+            0
+        }
+        Checked::Unlawful => {
+            answer_two(answers, 0, 0);
+            1
+        }
+        Checked::WrongLength => {
+            answer_two(answers, 0, 0);
+            2
+        }
+        Checked::Broken(address, rule) => {
+            answer_two(answers, address as u64, rule as u64);
+            17
+        }
+    }
+}
+
+// Reads a word: 1, 5, 6, 7.
+#[no_mangle]
+pub extern "C" fn yam_read(config: &[u32], word: u32, instruction: &mut [u32]) -> u32
+    ensures { λ n. ⌜ left n (now (instruction .exit)) ≡ readCall (now (config .entry)) word (now (instruction .entry)) ⌝ }
+{
+    let r = words::read_word(config_from(config), word);
+    read_into(r, instruction)
+}
+
+// Writes a word: 1, 5, 6, 7.
+#[no_mangle]
+pub extern "C" fn yam_write(config: &[u32], instruction: &[u32], answers: &mut [u64]) -> u32
+    ensures { λ n. ⌜ left n (now (answers .exit)) ≡ writeCall (now (config .entry)) (now (instruction .entry)) (now (answers .entry)) ⌝ }
+{
+    let w = words::write_word(config_from(config), instruction_from(instruction));
+    write_into(w, answers)
+}
+
+// The machine at reset; 3 where the list is not a hundred words long.
+#[no_mangle]
+pub extern "C" fn yam_reset(machine: &mut [u32]) -> u32
+    ensures { λ n. ⌜ left n (now (machine .exit)) ≡ resetCall (now (machine .entry)) ⌝ }
+{
+    if machine.len() != 100 {
+        return 3;
+    }
+    machine_into(Machine::reset(), machine);
+    0
+}
+
+// One step: 1, 2, 3, 4 to 15.
+#[no_mangle]
+pub extern "C" fn yam_step(
+    config: &[u32],
+    image: &[u32],
+    inputs: &[u32],
+    machine: &mut [u32],
+    registers: &mut [u32],
+    memory: &mut [u32],
+    addresses: &mut [u32],
+    values: &mut [u32],
+    answers: &mut [u64],
+) -> u32
+    ensures { λ n. ⌜ moved n (now (machine .exit)) (now (registers .exit)) (now (memory .exit)) (now (addresses .exit)) (now (values .exit)) (now (answers .exit)) ≡ stepCall (now (config .entry)) (now (image .entry)) (now (inputs .entry)) (now (machine .entry)) (now (registers .entry)) (now (memory .entry)) (now (addresses .entry)) (now (values .entry)) (now (answers .entry)) ⌝ }
+{
+    let c = config_from(config);
+    let m = machine_from(machine);
+    let r = machine::step(c, image, inputs, m, registers, memory, addresses, values);
+    let next = r.machine;
+    update(r.number == 0, next, machine);
+    answer(answers, r.cycles);
+    r.number
+}
+
+// A run: 1, 2, 3, 16, then the number of the step that ended it.
+#[no_mangle]
+pub extern "C" fn yam_run(
+    config: &[u32],
+    image: &[u32],
+    inputs: &[u32],
+    machine: &mut [u32],
+    registers: &mut [u32],
+    memory: &mut [u32],
+    addresses: &mut [u32],
+    values: &mut [u32],
+    budget: u64,
+    answers: &mut [u64],
+) -> u32
+    ensures { λ n. ⌜ moved n (now (machine .exit)) (now (registers .exit)) (now (memory .exit)) (now (addresses .exit)) (now (values .exit)) (now (answers .exit)) ≡ runCall (now (config .entry)) (now (image .entry)) (now (inputs .entry)) (now (machine .entry)) (now (registers .entry)) (now (memory .entry)) (now (addresses .entry)) (now (values .entry)) budget (now (answers .entry)) ⌝ }
+{
+    let c = config_from(config);
+    let m = machine_from(machine);
+    let r = machine::run(
+        c,
+        image,
+        inputs,
+        m,
+        registers,
+        memory,
+        addresses,
+        values,
+        budget,
+    );
+    let next = r.machine;
+    update(0 < r.steps, next, machine);
+    answer_two(answers, r.steps, r.cycles);
+    r.number
+}
+
+// The check of a certificate: 1, 2, 17.
+#[no_mangle]
+pub extern "C" fn yam_check(
+    config: &[u32],
+    image: &[u32],
+    certificate: &[u8],
+    answers: &mut [u64],
+) -> u32
+    ensures { λ n. ⌜ left n (now (answers .exit)) ≡ checkCall (now (config .entry)) (now (image .entry)) (now (certificate .entry)) (now (answers .entry)) ⌝ }
+{
+    let r = certificate::check(config_from(config), image, certificate);
+    check_into(r, answers)
+}
+
+// The text of a word: 1, 5, 6, 7, 18, 23.
+#[no_mangle]
+pub extern "C" fn yam_text(
+    config: &[u32],
+    word: u32,
+    page: &mut [u8],
+    place: u64,
+    answers: &mut [u64],
+) -> u32
+    ensures { λ n. ⌜ printed n (now (page .exit)) (now (answers .exit)) ≡ textPrinted (now (config .entry)) word (now (page .entry)) place (now (answers .entry)) ⌝ }
+{
+    let r = text::text(config_from(config), word, page, place as usize);
+    answer(answers, r.place as u64);
+    r.number
+}
+
+// The listing of an image: 1, 2, 18.
+#[no_mangle]
+pub extern "C" fn yam_list(
+    config: &[u32],
+    image: &[u32],
+    first: u64,
+    page: &mut [u8],
+    place: u64,
+    answers: &mut [u64],
+) -> u32
+    ensures { λ n. ⌜ printed n (now (page .exit)) (now (answers .exit)) ≡ listCall (now (config .entry)) (now (image .entry)) first (now (page .entry)) place (now (answers .entry)) ⌝ }
+{
+    let r = text::list(
+        config_from(config),
+        image,
+        first as usize,
+        page,
+        place as usize,
+    );
+    answer_two(answers, r.place as u64, r.next as u64);
+    r.number
+}
+
+// Loads an image file: 1 where the list for the configuration is not nineteen words long; then 19 to 22, 1 and 2 in document 01's order.
+#[no_mangle]
+pub extern "C" fn yam_load(file: &[u8], config: &mut [u32], image: &mut [u32]) -> u32
+    ensures { λ n. ⌜ filled n (now (config .exit)) (now (image .exit)) ≡ loadCall (now (file .entry)) (now (config .entry)) (now (image .entry)) ⌝ }
+{
+    if config.len() != 19 {
+        return 1;
+    }
+    let r = image::load(file, image);
+    if r.number != 0 {
+        return r.number;
+    }
+    let c = r.config;
+    config_into(c, config);
+    0
+}
+
+// Writes an image file: 1, 2, 19.
+#[no_mangle]
+pub extern "C" fn yam_store(config: &[u32], image: &[u32], file: &mut [u8]) -> u32
+    ensures { λ n. ⌜ left n (now (file .exit)) ≡ storeCall (now (config .entry)) (now (image .entry)) (now (file .entry)) ⌝ }
+{
+    image::store(config_from(config), image, file)
+}

@@ -1,0 +1,53 @@
+/* A plain interpreter of the YAM core, to compare speeds with. Numbers are document 01's. */
+#ifndef PLAIN_H
+#define PLAIN_H
+#include <stddef.h>
+#include <stdint.h>
+
+struct plain_config {
+    uint32_t im_size, reg_width, reg_size, rm_size, pc_stack, dm_size, dm_pipe, alu_level;
+    uint32_t alu_mult, alu_spr, iop_if, iop_rmw, yam_clk, yam_sreg3;
+    uint32_t alu_3op, irq_if, copm_size, im_width, yam_dbg;
+};
+
+struct plain_machine {
+    uint32_t pc, wp, rx, ry, n, z, spr7, depth, imask, saved, mode, posted, posted_address;
+    uint64_t input_position, log_position;
+    uint32_t stack[63];
+};
+
+struct plain_answer {
+    uint32_t number;
+    uint64_t steps, cycles;
+};
+
+/* The image is im_size long, registers rm_size, memory dm_size: lengths that are not passed here, so 2 is the caller's. */
+void plain_run(const struct plain_config *c, const uint32_t *image, const uint32_t *inputs, size_t inputs_len,
+               struct plain_machine *m, uint32_t *registers, uint32_t *memory, uint32_t *log_a, uint32_t *log_v,
+               size_t log_len, uint64_t budget, struct plain_answer *out);
+void plain_reset(struct plain_machine *m);
+
+/* 1 where the configuration breaks the rules, else 0. */
+uint32_t plain_config_number(const struct plain_config *c);
+
+/* 5, 6 or 7 where the word cannot be read, else 0. The configuration is lawful. */
+uint32_t plain_verdict(const struct plain_config *c, uint32_t word);
+
+/* The library's number of the row of a word that can be read under some configuration. */
+uint32_t plain_row(uint32_t word);
+
+/* 1, 5, 6, 7, or 0 with the parts: row, flag, 22-16, 6-0, byte number, value. */
+uint32_t plain_read(const struct plain_config *c, uint32_t word, uint32_t parts[6]);
+
+/* Answers 0, 1 or 17; address and rule (17) or the level at 0 and 0 (pass). */
+uint32_t plain_check(const struct plain_config *c, const uint32_t *image, const uint8_t *sheet, uint64_t answers[2]);
+
+/* Writes config's first 14 fields and the image; image_len is the length of the lent image. */
+uint32_t plain_load(const uint8_t *file, size_t file_len, struct plain_config *c, uint32_t *image, size_t image_len);
+
+/* Lists image[first..] into page from place on; answers the place reached and the next address. */
+uint32_t plain_list(const struct plain_config *c, const uint32_t *image, uint64_t first, uint8_t *page, size_t page_len,
+                    uint64_t place, uint64_t answers[2]);
+/* The text of a word that can be read, without a terminating zero; returns its length. */
+size_t plain_text(uint32_t word, uint8_t *out);
+#endif

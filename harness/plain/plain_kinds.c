@@ -1,0 +1,34 @@
+/* The table over bits 31 to 23. */
+#include "plain_kinds.h"
+
+#define AT(op, s, mode) [(op) << 4 | (s) << 3 | (mode)]
+#define BOTH(op, mode, kind) AT(op, 0, mode) = kind, AT(op, 1, mode) = kind
+#define FOUR(op, name)                                                                                        \
+    BOTH(op, 0, name##_R), BOTH(op, 4, UNSUPPORTED), BOTH(op, 5, name##_S), BOTH(op, 6, name##_U), BOTH(op, 7, name##_H)
+#define ROW(top, rest) [(top) << 5 | (rest)]
+
+const uint8_t plain_kinds[512] = {
+    FOUR(0, TST), FOUR(1, AND), FOUR(2, OR), FOUR(3, XOR), FOUR(4, CMP), FOUR(5, CMPS), FOUR(6, SUB), FOUR(7, SUBS),
+    FOUR(8, ADD), FOUR(9, ADDC), FOUR(10, SUBC), FOUR(14, MUL),
+    BOTH(16, 0, SHR_R), BOTH(16, 1, SHRA_R), BOTH(16, 4, SHL_R), BOTH(16, 2, SHR_I), BOTH(16, 3, SHRA_I), BOTH(16, 6, SHL_I),
+    BOTH(18, 0, ROTR), BOTH(18, 4, ROTL), BOTH(18, 6, SHL16), BOTH(18, 1, ABS), BOTH(18, 3, CLZ),
+    BOTH(19, 0, LEVEL2), BOTH(19, 1, LEVEL2), BOTH(19, 2, LEVEL2), BOTH(19, 3, LEVEL2),
+    ROW(10, 0) = MOV_R, ROW(10, 2) = MOV_FROM_R, ROW(10, 3) = MOV_FROM_A, ROW(10, 5) = MOV_S, ROW(10, 6) = MOV_U,
+    ROW(10, 7) = MOV_H, ROW(10, 16) = MOV_TO_R, ROW(10, 24) = MOV_TO_A,
+    ROW(11, 2) = PORT_READ, ROW(11, 16) = PORT_R, ROW(11, 21) = PORT_S, ROW(11, 22) = PORT_U, ROW(11, 23) = PORT_H,
+    ROW(12, 0) = JMP, ROW(12, 1) = JMP_IF, ROW(12, 2) = JMP_IF, ROW(12, 3) = JMP_IF, ROW(12, 4) = JMP_IF, ROW(12, 5) = JMP_IF,
+    ROW(12, 6) = JMP_IF, ROW(12, 7) = UNSUPPORTED, ROW(12, 8) = UNSUPPORTED, ROW(12, 9) = UNSUPPORTED,
+    ROW(12, 10) = UNSUPPORTED, ROW(12, 11) = UNSUPPORTED, ROW(12, 12) = JMP_BIO,
+    ROW(12, 16) = JMP_R, ROW(12, 17) = JMP_R, ROW(12, 18) = JMP_R, ROW(12, 19) = JMP_R, ROW(12, 20) = JMP_R, ROW(12, 21) = JMP_R,
+    ROW(12, 22) = JMP_R, ROW(12, 23) = UNSUPPORTED, ROW(12, 24) = UNSUPPORTED, ROW(12, 25) = UNSUPPORTED,
+    ROW(12, 26) = UNSUPPORTED, ROW(12, 27) = UNSUPPORTED, ROW(12, 28) = JMP_R_BIO,
+    ROW(14, 0) = UNSUPPORTED, ROW(14, 1) = UNSUPPORTED, ROW(14, 2) = UNSUPPORTED, ROW(14, 3) = UNSUPPORTED,
+    ROW(14, 4) = UNSUPPORTED, ROW(14, 5) = UNSUPPORTED, ROW(14, 6) = UNSUPPORTED, ROW(14, 7) = UNSUPPORTED,
+    ROW(14, 8) = UNSUPPORTED, ROW(14, 9) = UNSUPPORTED, ROW(14, 10) = UNSUPPORTED, ROW(14, 11) = UNSUPPORTED,
+    ROW(14, 12) = UNSUPPORTED, ROW(14, 13) = UNSUPPORTED, ROW(14, 14) = UNSUPPORTED, ROW(14, 15) = UNSUPPORTED,
+    ROW(14, 16) = UNSUPPORTED, ROW(14, 17) = UNSUPPORTED, ROW(14, 18) = UNSUPPORTED, ROW(14, 19) = UNSUPPORTED,
+    ROW(14, 20) = UNSUPPORTED, ROW(14, 21) = UNSUPPORTED, ROW(14, 22) = UNSUPPORTED, ROW(14, 23) = UNSUPPORTED,
+    ROW(14, 24) = UNSUPPORTED, ROW(14, 25) = UNSUPPORTED, ROW(14, 26) = UNSUPPORTED, ROW(14, 27) = UNSUPPORTED,
+    ROW(14, 28) = UNSUPPORTED, ROW(14, 29) = UNSUPPORTED, ROW(14, 30) = UNSUPPORTED, ROW(14, 31) = UNSUPPORTED,
+    ROW(15, 0) = CONTROL, ROW(15, 1) = JSR, ROW(15, 2) = JSRWP, ROW(15, 4) = UNSUPPORTED, ROW(15, 5) = RLD, ROW(15, 17) = JSR_R,
+};

@@ -1,0 +1,226 @@
+//! Compares the library with the model call by call.
+//!
+//! usage: test [--count N] [--seed S] [--vectors DIR] [--case SUBJECT:SEED]
+//!   --count    how many comparisons, at least (2,200,000)
+//!   --seed     where the cases start from (1)
+//!   --vectors  runs outside vectors as well, through the model and through the library
+//!   --case     runs one case again, as a difference names it
+//!
+//! Exit status 1 on any difference, or where a call never answered a number that it can.
+
+use std::path::PathBuf;
+use std::process::ExitCode;
+use yam_harness::calls::Calls;
+use yam_harness::cases::{Subject, SUBJECTS};
+use yam_harness::compare::{Counts, Pair};
+use yam_harness::model::Model;
+use yam_harness::random::Random;
+use yam_harness::{document, refusals, vectors, LIBRARY, LIBRARY_NAME};
+
+/// How many differences are printed, and how much of each.
+const SHOWN: usize = 5;
+const SHOWN_BYTES: usize = 3000;
+
+struct Options {
+    count: u64,
+    seed: u64,
+    vectors: Option<PathBuf>,
+    case: Option<(String, u64)>,
+}
+
+fn options() -> Result<Options, String> {
+    let mut options = Options { count: 2_200_000, seed: 1, vectors: None, case: None };
+    let mut arguments = std::env::args().skip(1);
+    while let Some(name) = arguments.next() {
+        let value = arguments.next().ok_or(format!("{name} wants a value"))?;
+        match name.as_str() {
+            "--count" => options.count = number(&value)?,
+            "--seed" => options.seed = number(&value)?,
+            "--vectors" => options.vectors = Some(PathBuf::from(value)),
+            "--case" => {
+                let (subject, seed) = value.split_once(':').ok_or("a case is SUBJECT:SEED")?;
+                options.case = Some((subject.to_string(), number(seed)?));
+            }
+            _ => return Err(format!("{name} is no option: --count N, --seed S, --vectors DIR, --case SUBJECT:SEED")),
+        }
+    }
+    Ok(options)
+}
+
+fn number(text: &str) -> Result<u64, String> {
+    let parsed = match text.strip_prefix("0x") {
+        Some(digits) => u64::from_str_radix(digits, 16),
+        None => text.parse(),
+    };
+    parsed.map_err(|_| format!("{text} is no number"))
+}
+
+fn main() -> ExitCode {
+    match options().and_then(|options| test(&options)) {
+        Ok(true) => ExitCode::SUCCESS,
+        Ok(false) => ExitCode::FAILURE,
+        Err(why) => {
+            eprintln!("{why}");
+            ExitCode::from(2)
+        }
+    }
+}
+
+/// True where nothing differs.
+fn test(options: &Options) -> Result<bool, String> {
+    let mut good = run_document("model", &Model) & run_refusals("model", &Model) & refusals_name_calls();
+    if let Some(library) = LIBRARY {
+        good &= run_document(LIBRARY_NAME, library) & run_refusals(LIBRARY_NAME, library);
+    }
+    if let Some(folder) = &options.vectors {
+        good &= run_vectors("model", &Model, folder)?;
+        if let Some(library) = LIBRARY {
+            good &= run_vectors(LIBRARY_NAME, library, folder)?;
+        }
+    }
+    let Some(library) = LIBRARY else {
+        println!("the library was left out of this build: nothing is compared with the model");
+        return if options.vectors.is_some() { Ok(good) } else { Err("nothing was done".to_string()) };
+    };
+    println!("the model beside the {LIBRARY_NAME}:");
+    let mut pair = Pair::new(&Model, library);
+    let differences = match &options.case {
+        Some((subject, seed)) => one_case(&mut pair, subject, *seed)?,
+        None => many_cases(&mut pair, options),
+    };
+    for (index, difference) in differences.iter().enumerate().take(SHOWN) {
+        let whole = options.case.is_some() || difference.len() <= SHOWN_BYTES;
+        let shown: String = if whole { difference.clone() } else { difference.chars().take(SHOWN_BYTES).collect() };
+        println!("difference {}: {shown}{}", index + 1, if whole { "" } else { " ..." });
+    }
+    print_counts(&pair.counts);
+    let seen = pair.demand;
+    println!(
+        "demand 3: {} programs passed, {} of them reached the level at 0 (where above 0), {} calls, {} steps",
+        seen.programs, seen.reached, seen.calls, seen.steps
+    );
+    println!("{} comparisons, {} cases with a difference", pair.compared, differences.len());
+    let met = options.case.is_some() || every_number_met(&pair.counts);
+    Ok(good && met && differences.is_empty())
+}
+
+fn run_case(pair: &mut Pair, subject: &Subject, seed: u64) -> Result<(), String> {
+    (subject.case)(pair, &mut Random::new(seed)).map_err(|how| format!("--case {}:{seed:#x}\n  {how}", subject.name))
+}
+
+fn one_case(pair: &mut Pair, name: &str, seed: u64) -> Result<Vec<String>, String> {
+    let subject = SUBJECTS.iter().find(|s| s.name == name).ok_or(format!("{name} is no subject"))?;
+    Ok(run_case(pair, subject, seed).err().into_iter().collect())
+}
+
+fn many_cases(pair: &mut Pair, options: &Options) -> Vec<String> {
+    let mut seeds = Random::new(options.seed);
+    let mut differences = Vec::new();
+    while pair.compared < options.count {
+        for subject in &SUBJECTS {
+            for _ in 0..subject.weight {
+                differences.extend(run_case(pair, subject, seeds.wide()).err());
+            }
+        }
+    }
+    differences
+}
+
+fn print_counts(counts: &Counts) {
+    for (call, numbers) in counts {
+        let all: u64 = numbers.values().sum();
+        let each: Vec<String> = numbers.iter().map(|(number, count)| format!("{number}: {count}")).collect();
+        println!("{call:6} {all:8}   {}", each.join(", "));
+    }
+}
+
+/// The numbers that each call can answer; 23 is none of them, since no text is that long.
+const POSSIBLE: [(&str, &[u32]); 10] = [
+    ("read", &[0, 1, 5, 6, 7]),
+    ("write", &[0, 1, 5, 6, 7]),
+    ("reset", &[0, 3]),
+    ("step", &[0, 1, 2, 3, 4, 5, 6, 7, 8, 9, 10, 11, 12, 13, 14, 15]),
+    ("run", &[0, 1, 2, 3, 4, 5, 6, 7, 8, 9, 10, 11, 12, 13, 14, 15, 16]),
+    ("check", &[0, 1, 2, 17]),
+    ("text", &[0, 1, 5, 6, 7, 18]),
+    ("list", &[0, 1, 2, 18]),
+    ("load", &[0, 1, 2, 19, 20, 21, 22]),
+    ("store", &[0, 1, 2, 19]),
+];
+
+fn every_number_met(counts: &Counts) -> bool {
+    let mut met = true;
+    for (call, numbers) in POSSIBLE {
+        let seen = |number: &&u32| counts.get(call).is_some_and(|answered| answered.contains_key(number));
+        for number in numbers.iter().filter(|number| !seen(number)) {
+            println!("{call} never answered {number}");
+            met = false;
+        }
+        for number in counts.get(call).into_iter().flat_map(|answered| answered.keys()).filter(|number| !numbers.contains(number))
+        {
+            println!("{call} answered {number}, which it is not known to");
+            met = false;
+        }
+    }
+    if met {
+        println!("every call answered every number that it can, 0 to 22, and no other");
+    }
+    met
+}
+
+fn run_document(name: &str, calls: &dyn Calls) -> bool {
+    let result = document::run(calls);
+    match &result {
+        Ok(()) => println!("document 01's cases, {name}: as it says"),
+        Err(how) => println!("document 01's cases, {name}: {how}"),
+    }
+    result.is_ok()
+}
+
+fn run_refusals(name: &str, calls: &dyn Calls) -> bool {
+    let result = refusals::run(calls);
+    match &result {
+        Ok(count) => println!("the examples of docs/refusals.md, {name}: all {count} as they say"),
+        Err(how) => println!("the examples of docs/refusals.md, {name}: {how}"),
+    }
+    result.is_ok()
+}
+
+/// Whether docs/refusals.md names, beside each number, exactly the calls that can answer it.
+fn refusals_name_calls() -> bool {
+    let lines = match refusals::lines() {
+        Ok(lines) => lines,
+        Err(how) => {
+            println!("{how}");
+            return false;
+        }
+    };
+    let mut right = true;
+    for line in lines {
+        let able: Vec<&str> =
+            POSSIBLE.iter().filter(|(_, numbers)| numbers.contains(&line.number)).map(|(call, _)| *call).collect();
+        if line.calls != able {
+            println!("docs/refusals.md, {}: calls {:?}, and they are {able:?}", line.number, line.calls);
+            right = false;
+        }
+    }
+    right
+}
+
+fn run_vectors(name: &str, calls: &dyn Calls, folder: &std::path::Path) -> Result<bool, String> {
+    let report = vectors::run(calls, folder)?;
+    println!("vectors, {name}:");
+    for (file, numbers) in &report.counts {
+        let all: u32 = numbers.values().sum();
+        let each: Vec<String> = numbers.iter().map(|(number, count)| format!("{number}: {count}")).collect();
+        println!("  {file:10} {all:4}   {}", each.join(", "));
+    }
+    for line in &report.left_out {
+        println!("  left out, since the interface cannot say it: {line}");
+    }
+    for difference in report.differences.iter().take(SHOWN) {
+        println!("  differs: {}", difference.chars().take(SHOWN_BYTES).collect::<String>());
+    }
+    println!("  {} differences", report.differences.len());
+    Ok(report.differences.is_empty())
+}

@@ -1,0 +1,27 @@
+//! Compares the proved library, through its C interface, with an independent model, and its speed with plain programs in C.
+
+pub mod calls;
+pub mod cases;
+pub mod compare;
+pub mod demand;
+pub mod document;
+pub mod generate;
+pub mod json;
+pub mod model;
+pub mod plain;
+pub mod random;
+pub mod refusals;
+pub mod speed;
+pub mod vector_parts;
+pub mod vectors;
+#[cfg(any(feature = "library", feature = "plain"))]
+pub mod yam;
+
+/// What is compared with the model: the library, or what stands in its place.
+#[cfg(any(feature = "library", feature = "plain"))]
+pub const LIBRARY: Option<&dyn calls::Calls> = Some(&yam::Library);
+#[cfg(not(any(feature = "library", feature = "plain")))]
+pub const LIBRARY: Option<&dyn calls::Calls> = None;
+
+/// What it is called in print.
+pub const LIBRARY_NAME: &str = if cfg!(feature = "plain") { "plain programs, in the library's place" } else { "library" };

@@ -1,0 +1,299 @@
+//! Runs outside vectors (a folder of JSON lines and image files) through a set of calls and reports differences.
+
+use crate::calls::{Calls, State};
+use crate::json::Json;
+use crate::model::config::FIXED_FIELDS;
+use crate::model::machine::{MACHINE_WORDS, STACK_CELLS};
+use crate::vector_parts::{from_vector, to_vector};
+use std::collections::BTreeMap;
+use std::path::Path;
+
+/// What came of one folder: lines compared by file and number, differences, and lines that the calls cannot be given.
+#[derive(Default)]
+pub struct Report {
+    pub counts: BTreeMap<String, BTreeMap<u32, u32>>,
+    pub differences: Vec<String>,
+    pub left_out: Vec<String>,
+}
+
+/// A difference, or why a line cannot be given.
+enum Trouble {
+    Differs(String),
+    LeftOut(String),
+}
+
+impl From<String> for Trouble {
+    fn from(text: String) -> Trouble {
+        Trouble::Differs(text)
+    }
+}
+
+type Outcome = Result<(), Trouble>;
+
+fn same<T: PartialEq + std::fmt::Debug>(what: &str, got: T, wanted: T) -> Result<(), String> {
+    if got == wanted {
+        Ok(())
+    } else {
+        Err(format!("{what}: got {got:?}, wanted {wanted:?}"))
+    }
+}
+
+pub fn run(calls: &dyn Calls, folder: &Path) -> Result<Report, String> {
+    let mut report = Report::default();
+    let files: [(&str, fn(&dyn Calls, &Json) -> Outcome); 8] = [
+        ("read", read),
+        ("write", write),
+        ("step", step),
+        ("run", run_line),
+        ("sheet", sheet),
+        ("sheet_tiny", sheet),
+        ("listing", listing),
+        ("load", load),
+    ];
+    for (name, check) in files {
+        let path = folder.join(format!("{name}.jsonl"));
+        let text = std::fs::read_to_string(&path).map_err(|e| format!("{}: {e}", path.display()))?;
+        for (index, line) in text.lines().enumerate() {
+            let place = format!("{name}.jsonl:{}", index + 1);
+            let json = Json::parse(line).map_err(|e| format!("{place}: {e}"))?;
+            let number = json.field("no").word()?;
+            report.add(name, place, number, check(calls, &json));
+        }
+    }
+    images(calls, folder, &mut report)?;
+    Ok(report)
+}
+
+impl Report {
+    fn add(&mut self, name: &str, place: String, number: u32, outcome: Outcome) {
+        match outcome {
+            Err(Trouble::LeftOut(why)) => return self.left_out.push(format!("{place}: {why}")),
+            Err(Trouble::Differs(how)) => self.differences.push(format!("{place}: {how}")),
+            Ok(()) => {}
+        }
+        *self.counts.entry(name.to_string()).or_default().entry(number).or_default() += 1;
+    }
+}
+
+/// The configuration as the calls take it.
+fn config_of(json: &Json) -> Result<Vec<u32>, String> {
+    let mut words = json.field("cfg").words()?;
+    words.extend(FIXED_FIELDS);
+    Ok(words)
+}
+
+fn read(calls: &dyn Calls, json: &Json) -> Outcome {
+    let (config, word) = (config_of(json)?, json.field("word").word()?);
+    let wanted = json.field("no").word()?;
+    let mut parts = [u32::MAX; 6];
+    same("number", calls.read(&config, word, &mut parts), wanted)?;
+    if wanted == 0 {
+        let named = to_vector(&parts);
+        for (name, value) in named {
+            same(name, Some(&value), Some(json.field("instr").field(name)))?;
+        }
+    } else {
+        same("parts", parts, [u32::MAX; 6])?;
+    }
+    let (mut page, mut answers) = ([b'.'; 40], [7]);
+    let number = calls.text(&config, word, &mut page, 3, &mut answers);
+    same("text's number", number, wanted)?;
+    let text = match wanted {
+        0 => String::from_utf8_lossy(&page[3..answers[0] as usize]).into_owned(),
+        _ => format!("?{number}"),
+    };
+    if wanted != 1 {
+        same("text", text.as_str(), json.field("text").text()?)?;
+    }
+    Ok(())
+}
+
+fn write(calls: &dyn Calls, json: &Json) -> Outcome {
+    let parts = from_vector(json.field("instr"))?;
+    let mut answers = [7];
+    let number = calls.write(&config_of(json)?, &parts, &mut answers);
+    same("number", number, json.field("no").word()?)?;
+    same("word", answers[0], json.field("word").number()?)?;
+    Ok(())
+}
+
+struct Lists {
+    machine: Vec<u32>,
+    registers: Vec<u32>,
+    memory: Vec<u32>,
+    log_addresses: Vec<u32>,
+    log_values: Vec<u32>,
+}
+
+fn sparse(json: &Json) -> Result<Vec<u32>, String> {
+    let mut cells = vec![0; json.field("len").number()? as usize];
+    if let Json::Record(fields) = json.field("set") {
+        for (place, value) in fields {
+            let place: usize = place.parse().map_err(|_| format!("{place} is no place"))?;
+            cells[place] = value.word()?;
+        }
+    }
+    Ok(cells)
+}
+
+fn lists_of(json: &Json) -> Result<Lists, Trouble> {
+    let m = json.field("m");
+    let mut machine = Vec::new();
+    for name in ["pc", "wp", "rx", "ry", "n", "z", "spr7", "depth", "imask", "saved", "mode", "posted", "paddr"] {
+        machine.push(m.field(name).word().map_err(|why| Trouble::LeftOut(format!("{name}: {why}")))?);
+    }
+    for name in ["rpos", "lpos"] {
+        let position = m.field(name).number()?;
+        machine.extend([position as u32, (position >> 32) as u32]);
+    }
+    let stack = m.field("stack").words()?;
+    if stack.len() > STACK_CELLS && stack[STACK_CELLS..].iter().any(|&cell| cell != 0) && machine[7] <= 63 {
+        return Err(Trouble::LeftOut("the stack has more than 63 cells".to_string()));
+    }
+    machine.extend(stack.iter().take(STACK_CELLS));
+    machine.resize(MACHINE_WORDS, 0);
+    Ok(Lists {
+        machine,
+        registers: sparse(json.field("regs"))?,
+        memory: sparse(json.field("dm"))?,
+        log_addresses: json.field("log_a").words()?,
+        log_values: json.field("log_v").words()?,
+    })
+}
+
+impl Lists {
+    fn state(&mut self) -> State<'_> {
+        State {
+            machine: &mut self.machine,
+            registers: &mut self.registers,
+            memory: &mut self.memory,
+            log_addresses: &mut self.log_addresses,
+            log_values: &mut self.log_values,
+        }
+    }
+}
+
+fn same_lists(got: &Lists, wanted: &Lists) -> Result<(), String> {
+    same("machine", &got.machine, &wanted.machine)?;
+    same("registers", &got.registers, &wanted.registers)?;
+    same("memory", &got.memory, &wanted.memory)?;
+    same("log addresses", &got.log_addresses, &wanted.log_addresses)?;
+    same("log values", &got.log_values, &wanted.log_values)
+}
+
+fn step(calls: &dyn Calls, json: &Json) -> Outcome {
+    let (config, image) = (config_of(json)?, json.field("image").words()?);
+    let inputs = json.field("before").field("readings").words()?;
+    let mut lists = lists_of(json.field("before"))?;
+    let mut answers = [7];
+    let number = calls.step(&config, &image, &inputs, lists.state(), &mut answers);
+    same("number", number, json.field("no").word()?)?;
+    same("cycles", answers[0], json.field("cycles").number()?)?;
+    same_lists(&lists, &lists_of(json.field("after"))?)?;
+    Ok(())
+}
+
+fn run_line(calls: &dyn Calls, json: &Json) -> Outcome {
+    let (config, image) = (config_of(json)?, json.field("image").words()?);
+    let inputs = json.field("before").field("readings").words()?;
+    let mut lists = lists_of(json.field("before"))?;
+    let (mut answers, budget) = ([7, 7], json.field("budget").number()?);
+    let number = calls.run(&config, &image, &inputs, lists.state(), budget, &mut answers);
+    same("number", number, json.field("no").word()?)?;
+    same("steps", answers[0], json.field("steps").number()?)?;
+    same("cycles", answers[1], json.field("cycles").number()?)?;
+    same_lists(&lists, &lists_of(json.field("after"))?)?;
+    Ok(())
+}
+
+fn sheet(calls: &dyn Calls, json: &Json) -> Outcome {
+    let (config, image) = (config_of(json)?, json.field("image").words()?);
+    let sheet: Vec<u8> = json.field("sheet").words()?.iter().map(|&byte| byte as u8).collect();
+    let mut answers = [7, 7];
+    let number = calls.check(&config, &image, &sheet, &mut answers);
+    same("number", number, json.field("no").word()?)?;
+    let wanted = match number {
+        0 => [json.field("level").number()?, 0],
+        _ => [json.field("address").number()?, json.field("rule").number()?],
+    };
+    same("answers", answers, wanted)?;
+    Ok(())
+}
+
+fn listing(calls: &dyn Calls, json: &Json) -> Outcome {
+    let (config, image) = (config_of(json)?, json.field("image").words()?);
+    let mut page = vec![b'.'; json.field("page_len").number()? as usize];
+    let (first, place) = (json.field("start").number()?, json.field("place").number()?);
+    let mut answers = [7, 7];
+    let number = calls.list(&config, &image, first, &mut page, place, &mut answers);
+    same("number", number, json.field("no").word()?)?;
+    same("answers", answers, [json.field("place_after").number()?, json.field("next").number()?])?;
+    same("page", String::from_utf8_lossy(&page).as_ref(), json.field("page").text()?)?;
+    Ok(())
+}
+
+fn load(calls: &dyn Calls, json: &Json) -> Outcome {
+    let hex = json.field("data").text()?.as_bytes();
+    let digit = |byte: u8| (byte as char).to_digit(16).ok_or_else(|| "no hex digit".to_string());
+    let mut file = Vec::new();
+    for pair in hex.chunks(2) {
+        file.push((16 * digit(pair[0])? + digit(pair[1])?) as u8);
+    }
+    let old = 0xa5a5_a5a5;
+    let (mut config, mut image) = (vec![old; 19], vec![old; json.field("slice_len").number()? as usize]);
+    let mut wanted = (config.clone(), image.clone());
+    let number = calls.load(&file, &mut config, &mut image);
+    same("number", number, json.field("no").word()?)?;
+    if number == 0 {
+        wanted.0 = config_of(json)?;
+        let words = json.field("words").words()?;
+        wanted.1[..words.len()].copy_from_slice(&words);
+    }
+    same("configuration and image", (config, image), wanted)?;
+    Ok(())
+}
+
+/// "The programs hold 8,192 words; past 34,304 bytes of input they print the line "refused 2"".
+fn listing_program(calls: &dyn Calls, file: &[u8]) -> (u32, Vec<u8>) {
+    let refused = |number: u32| (number, format!("refused {number}\n").into_bytes());
+    if file.len() > 34304 {
+        return refused(2);
+    }
+    let (mut config, mut image, mut answers) = ([0; 19], vec![0; 8192], [0, 0]);
+    match calls.load(file, &mut config, &mut image) {
+        0 => {}
+        number => return refused(number),
+    }
+    image.truncate(config[0] as usize);
+    let mut page = vec![0; 37 * image.len()];
+    match calls.list(&config, &image, 0, &mut page, 0, &mut answers) {
+        0 => {}
+        number => return refused(number),
+    }
+    page.truncate(answers[0] as usize);
+    (0, page)
+}
+
+fn images(calls: &dyn Calls, folder: &Path, report: &mut Report) -> Result<(), String> {
+    let folder = folder.join("images");
+    let entries = std::fs::read_dir(&folder).map_err(|e| format!("{}: {e}", folder.display()))?;
+    let mut paths: Vec<_> = entries.filter_map(|entry| entry.ok().map(|e| e.path())).collect();
+    paths.retain(|path| path.extension().is_some_and(|e| e == "img"));
+    paths.sort();
+    for path in paths {
+        let bytes = |path: &Path| std::fs::read(path).map_err(|e| format!("{}: {e}", path.display()));
+        let (file, wanted) = (bytes(&path)?, bytes(&path.with_extension("out"))?);
+        let (number, got) = listing_program(calls, &file);
+        let text = |bytes: &[u8]| String::from_utf8_lossy(bytes).into_owned();
+        let place = format!("images/{}", path.file_name().unwrap_or_default().to_string_lossy());
+        let outcome = if got == wanted {
+            Ok(())
+        } else {
+            let (got, wanted) = (text(&got), text(&wanted));
+            let differing = got.lines().zip(wanted.lines()).find(|(a, b)| a != b);
+            Err(Trouble::Differs(format!("first differing lines (got, wanted): {differing:?}")))
+        };
+        report.add("images", place, number, outcome);
+    }
+    Ok(())
+}
