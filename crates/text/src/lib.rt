@@ -6,7 +6,7 @@ mod lines;
 pub mod listing;
 pub mod pages;
 mod tables;
-pub mod texts;
+mod texts;
 mod writers;
 
 pub use listing::list;
