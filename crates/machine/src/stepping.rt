@@ -2,10 +2,9 @@
 ghost use mathlib.Core.Path.{_≡_};
 ghost use Prim.Native.Nat.{_≤_};
 ghost use lib.ListN.{length};
-ghost use Rattle.state.specs.State.{env, state, stackLimit};
+ghost use Rattle.state.specs.State.{env, state};
 ghost use Rattle.state.specs.Run.{runOf};
 ghost use Rattle.state.proofs.Good.{Good};
-ghost use Rattle.machine.specs.Act.{Lent};
 ghost use Rattle.machine.specs.Promises.{Steps, Runs};
 ghost use Rattle.machine.specs.Turns.{machineState, stepped, endOf, turnsEnd, ranEnd};
 use crate::Ran;
@@ -17,18 +16,10 @@ use state::Core;
 use state::Machine;
 use words::Config;
 
-// Steps of a state that 1, 2 and 3 let pass, to the budget or to a stop.
+// Steps of a state that 1, 2 and 3 let pass, to the budget or to a stop. The tables are built here, once, beside the loop that uses them.
 fn turns(
     c: Config,
-    limit: usize,
     first: Core,
-    classes: &[u8],
-    bases: &[u32],
-    packs: &[u64],
-    entries: &[u32],
-    uppers: &[u64],
-    lowers: &[u64],
-    waits: &[u64],
     image: &[u32],
     inputs: &[u32],
     stack: &mut [u32],
@@ -38,9 +29,17 @@ fn turns(
     values: &mut [u32],
     budget: u64,
 ) -> Turns
-    requires { ⌜ Lent c (now classes) (now bases) (now packs) (now entries) (now uppers) (now lowers) (now waits) × (limit ≡ stackLimit (c .pcstack)) × (length (now stack) ≡ 63) × Good (env c (now image) (now inputs)) (state first (now stack) (now registers) (now memory) (now addresses) (now values)) × (budget ≤ 1000000) ⌝ }
+    requires { ⌜ (length (now stack) ≡ 63) × Good (env c (now image) (now inputs)) (state first (now stack) (now registers) (now memory) (now addresses) (now values)) × (budget ≤ 1000000) ⌝ }
     ensures { λ r. ⌜ turnsEnd r (now (stack .exit)) (now (registers .exit)) (now (memory .exit)) (now (addresses .exit)) (now (values .exit)) ≡ endOf (runOf budget (env c (now (image .entry)) (now (inputs .entry))) (state first (now (stack .entry)) (now (registers .entry)) (now (memory .entry)) (now (addresses .entry)) (now (values .entry)))) ⌝ }
 {
+    let classes = words::class_table();
+    let bases = words::base_table();
+    let packs = words::row_table();
+    let entries = words::entry_table();
+    let uppers = words::upper_limits(c);
+    let lowers = words::lower_limits(c);
+    let waits = words::wait_table(c);
+    let limit = Machine::stack_limit(c.pcstack);
     let mut core = first;
     let mut left = budget;
     let mut cycles: u64 = 0;
@@ -49,13 +48,13 @@ fn turns(
             c,
             limit,
             core,
-            classes,
-            bases,
-            packs,
-            entries,
-            uppers,
-            lowers,
-            waits,
+            &classes,
+            &bases,
+            &packs,
+            &entries,
+            &uppers,
+            &lowers,
+            &waits,
             image,
             inputs,
             stack,
@@ -119,25 +118,9 @@ pub fn step(
             machine: m,
         };
     }
-    let classes = words::class_table();
-    let bases = words::base_table();
-    let packs = words::row_table();
-    let entries = words::entry_table();
-    let uppers = words::upper_limits(c);
-    let lowers = words::lower_limits(c);
-    let waits = words::wait_table(c);
-    let limit = Machine::stack_limit(c.pcstack);
     let t = turns(
         c,
-        limit,
         core,
-        &classes,
-        &bases,
-        &packs,
-        &entries,
-        &uppers,
-        &lowers,
-        &waits,
         image,
         inputs,
         &mut stack,
@@ -200,25 +183,9 @@ pub fn run(
             machine: m,
         };
     }
-    let classes = words::class_table();
-    let bases = words::base_table();
-    let packs = words::row_table();
-    let entries = words::entry_table();
-    let uppers = words::upper_limits(c);
-    let lowers = words::lower_limits(c);
-    let waits = words::wait_table(c);
-    let limit = Machine::stack_limit(c.pcstack);
     let t = turns(
         c,
-        limit,
         core,
-        &classes,
-        &bases,
-        &packs,
-        &entries,
-        &uppers,
-        &lowers,
-        &waits,
         image,
         inputs,
         &mut stack,
