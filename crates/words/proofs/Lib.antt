@@ -5,4 +5,5 @@ pub mod ClassTable
 pub mod Lent
 pub mod Checks
 pub mod Lookup
+pub mod Found
 pub mod Answering

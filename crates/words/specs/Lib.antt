@@ -10,4 +10,5 @@ pub mod Packed
 pub mod Facts
 pub mod Actions
 pub mod Lookup
+pub mod Finding
 pub mod Claims

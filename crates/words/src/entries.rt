@@ -1,8 +1,10 @@
 // Looking a word up by lent tables: the entry of its row, and the limits and waits of the entry's check (specs/Lookup.antt). A caller that reads many words
 // takes them once.
+ghost use Prim.Native.Nat.{_-_};
 ghost use mathlib.Core.Path.{_≡_};
 ghost use Rattle.laws.specs.Choice.{pick as choice};
 ghost use Rattle.words.specs.Classes.{rowOf};
+ghost use Rattle.words.specs.Finding.{maskOf, masks, costs};
 ghost use Rattle.words.specs.Lookup.{entryTable, uppers, lowers, waits};
 use crate::Config;
 use crate::columns::ENTRIES;
@@ -260,5 +262,173 @@ pub fn wait_table(c: Config) -> [u64; 64]
         0,
         0,
         0,
+    ]
+}
+
+// What a step costs in cycles, by the check.
+pub fn cost_table(c: Config) -> [u64; 64]
+    ensures { λ r. ⌜ r ≡ costs c ⌝ }
+{
+    let load = pick(!(c.dmpipe == 0), 3, 2);
+    [
+        2,
+        2,
+        2,
+        2,
+        2,
+        2,
+        2,
+        2,
+        2,
+        2,
+        2,
+        2,
+        load,
+        load,
+        load,
+        2,
+        2,
+        3,
+        3,
+        2,
+        2,
+        2,
+        2,
+        2,
+        2,
+        2,
+        2,
+        2,
+        2,
+        2,
+        2,
+        2,
+        2,
+        2,
+        2,
+        2,
+        2,
+        2,
+        2,
+        2,
+        2,
+        2,
+        2,
+        2,
+        2,
+        2,
+        2,
+        2,
+        2,
+        2,
+        2,
+        2,
+        2,
+        2,
+        2,
+        2,
+        2,
+        2,
+        2,
+        2,
+        2,
+        2,
+        2,
+        2,
+    ]
+}
+
+// all - used, and 0 where that is below 0
+fn room(all: u32, used: u64) -> u32
+    ensures { λ r. ⌜ r ≡ all - used ⌝ }
+{
+    if used < all as u64 {
+        all - used as u32
+    } else {
+        0
+    }
+}
+
+// The mask of a check's two limits.
+fn mask_of(upper: u64, lower: u64) -> u32
+    ensures { λ r. ⌜ r ≡ maskOf upper lower ⌝ }
+{
+    if (upper == 0) | (lower == 0) {
+        return 0xffffffff;
+    }
+    65536 * room(128, upper) + room(65536, lower)
+}
+
+// Both limits as one mask, by the check: a word with none of the mask's bits is within them.
+pub fn mask_table(c: Config) -> [u32; 64]
+    ensures { λ r. ⌜ r ≡ masks c ⌝ }
+{
+    let uppers = upper_limits(c);
+    let lowers = lower_limits(c);
+    [
+        0xffffffff,
+        mask_of(uppers[1], lowers[1]),
+        mask_of(uppers[2], lowers[2]),
+        mask_of(uppers[3], lowers[3]),
+        mask_of(uppers[4], lowers[4]),
+        mask_of(uppers[5], lowers[5]),
+        mask_of(uppers[6], lowers[6]),
+        mask_of(uppers[7], lowers[7]),
+        mask_of(uppers[8], lowers[8]),
+        mask_of(uppers[9], lowers[9]),
+        mask_of(uppers[10], lowers[10]),
+        mask_of(uppers[11], lowers[11]),
+        mask_of(uppers[12], lowers[12]),
+        mask_of(uppers[13], lowers[13]),
+        mask_of(uppers[14], lowers[14]),
+        mask_of(uppers[15], lowers[15]),
+        mask_of(uppers[16], lowers[16]),
+        mask_of(uppers[17], lowers[17]),
+        mask_of(uppers[18], lowers[18]),
+        mask_of(uppers[19], lowers[19]),
+        mask_of(uppers[20], lowers[20]),
+        mask_of(uppers[21], lowers[21]),
+        mask_of(uppers[22], lowers[22]),
+        mask_of(uppers[23], lowers[23]),
+        mask_of(uppers[24], lowers[24]),
+        mask_of(uppers[25], lowers[25]),
+        mask_of(uppers[26], lowers[26]),
+        mask_of(uppers[27], lowers[27]),
+        mask_of(uppers[28], lowers[28]),
+        mask_of(uppers[29], lowers[29]),
+        0xffffffff,
+        0xffffffff,
+        0xffffffff,
+        0xffffffff,
+        0xffffffff,
+        0xffffffff,
+        0xffffffff,
+        0xffffffff,
+        0xffffffff,
+        0xffffffff,
+        0xffffffff,
+        0xffffffff,
+        0xffffffff,
+        0xffffffff,
+        0xffffffff,
+        0xffffffff,
+        0xffffffff,
+        0xffffffff,
+        0xffffffff,
+        0xffffffff,
+        0xffffffff,
+        0xffffffff,
+        0xffffffff,
+        0xffffffff,
+        0xffffffff,
+        0xffffffff,
+        0xffffffff,
+        0xffffffff,
+        0xffffffff,
+        0xffffffff,
+        0xffffffff,
+        0xffffffff,
+        0xffffffff,
+        0xffffffff,
     ]
 }

@@ -9,6 +9,7 @@ pub mod configuration;
 pub mod decode;
 pub mod encode;
 pub mod entries;
+mod keyed;
 pub mod kinds;
 pub mod meaning;
 pub mod numbers;
@@ -20,8 +21,10 @@ pub use decode::read_word;
 pub use decode::read_word_lawful;
 pub use decode::read_word_lent;
 pub use encode::write_word;
+pub use entries::cost_table;
 pub use entries::entry_table;
 pub use entries::lower_limits;
+pub use entries::mask_table;
 pub use entries::row_in;
 pub use entries::upper_limits;
 pub use entries::wait_table;
@@ -35,6 +38,8 @@ pub use meaning::packed_lent;
 pub use meaning::row_facts;
 pub use tables::base_table;
 pub use tables::class_table;
+pub use tables::field_table;
+pub use tables::key_table;
 pub use tables::row_table;
 
 // A configuration of the core: the manual's generics under their names, in the order of document 01.
