@@ -2,18 +2,18 @@
 -- Assumes nothing.
 use Prim.Native.Nat.{ℕ, zero, suc, _+_, _-_, _*_, _/_, _%_, _^_, _≤_, _<_}
 use mathlib.Core.Path.{_≡_, refl, sym, ap, _∙_}
-use mathlib.Core.Bool.{Bool, _||_}
+use mathlib.Core.Bool.{_||_}
 use mathlib.Core.List.{List, [], _∷_, _++_}
 use mathlib.Core.Logic.{_⊎_, inl, inr}
 use native.Mathlib.Nat.{zero-add}
 use native.Mathlib.Omega.{arith}
 use borrow.Author.Tests.{lt-ltb, le-ltb}
 use lib.Dec.{T, ltb, ltb→lt, eqb, eqb→eq}
-use lib.Bits.{bitAnd, bitOr, and-mask, and-mod, and-shr, or-lt, or-disjoint}
+use lib.Bits.{bitAnd, and-mask, and-mod, and-shr, or-lt, or-disjoint}
 use lib.ListN.{length, getD}
 use Rattle.laws.specs.Choice.{pick, either}
 use Rattle.laws.specs.Table.{every, at-every, values, value-at}
-use Rattle.laws.specs.Test.{Holds, Member, member, member-holds, or-left, or-right, or-cases, eq→eqb}
+use Rattle.laws.specs.Test.{Holds, Member, member, member-holds, or-left, or-right, or-cases}
 use Rattle.words.specs.declared.Config.{Config}
 use Rattle.words.specs.Configs.{registerSizes, lawful}
 use Rattle.words.specs.Parts.{limit, available}
@@ -158,3 +158,133 @@ mask-quick c w hc hw =
     let pu = not-0 u (λ s. t (or-left (eqb u 0) (eqb l 0) s)) in
     let pl = not-0 l (λ s. t (or-right (eqb u 0) (eqb l 0) s)) in
     record { upper = upper-clear w u l pu pl e; lower = lower-clear w u l pl e })
+
+-- The entry of a word
+
+-- the classes that are no row
+abbrev special : List ℕ
+special = 240 ∷ 241 ∷ 242 ∷ 243 ∷ 244 ∷ 255 ∷ []
+
+abbrev Sort : ℕ → Type 0
+Sort c = (c < index) ⊎ Member c special
+
+all-sorted : T (every 512 (λ k. ltb (classOf k) index || member (classOf k) special))
+unfolding pick classOf
+all-sorted = tt
+
+sorted : (k : ℕ) → k < 512 → Sort (classOf k)
+sorted k h =
+    go
+    (or-cases (ltb (classOf k) index) (member (classOf k) special)
+    (at-every 512 (λ j. ltb (classOf j) index || member (classOf j) special) k all-sorted h))
+  where
+    go : T (ltb (classOf k) index) ⊎ T (member (classOf k) special) → Sort (classOf k)
+    go (inl t) = inl (ltb→lt (classOf k) index t)
+    go (inr t) = inr (member-holds (classOf k) special t)
+
+-- no entry has bit 7
+all-plain : T (every index (λ n. eqb (entryAt n / 128 % 2) 0))
+unfolding entryAt entries
+all-plain = tt
+
+plain : (n : ℕ) → n < index → entryAt n / 128 % 2 ≡ 0
+plain n h = eqb→eq (entryAt n / 128 % 2) 0 (at-every index (λ m. eqb (entryAt m / 128 % 2) 0) n all-plain h)
+
+-- keyAt by the class
+abbrev keyBy : ℕ → ℕ
+keyBy c = pick (ltb c index) (entryAt c) (getD fieldCodes (c - index) 0)
+
+-- a class that is a row
+key-row : (c : ℕ) → c < index → keyBy c ≡ entryAt c
+unfolding pick
+key-row c h = rw (lt-ltb c index h)
+
+row-row : (c f : ℕ) → c < index → rowOf c f ≡ c
+unfolding rowOf rowIn pick
+row-row c f h = rw (lt-ltb c index h)
+
+one-not-0 : _≡_ {A = ℕ} 1 0 → ⊥
+one-not-0 e = omega arith
+
+direct-by : (c f : ℕ) → Sort c → keyBy c / 128 % 2 ≡ 0 → keyBy c ≡ entryAt (rowOf c f)
+unfolding pick rowOf rowIn choices entryAt entries
+direct-by c f (inl h) z = key-row c h ∙ ap entryAt (sym (row-row c f h))
+direct-by c f (inr (inl e)) z = absurd (one-not-0 (rw e at z))
+direct-by c f (inr (inr (inl e))) z = absurd (one-not-0 (rw e at z))
+direct-by c f (inr (inr (inr (inl e)))) z = absurd (one-not-0 (rw e at z))
+direct-by c f (inr (inr (inr (inr (inl e))))) z = absurd (one-not-0 (rw e at z))
+direct-by c f (inr (inr (inr (inr (inr (inl e)))))) z = absurd (one-not-0 (rw e at z))
+direct-by c f (inr (inr (inr (inr (inr (inr e)))))) z = rw e
+
+pub key-direct : (w : ℕ) → w < 0x100000000 → keyAt (w / 0x800000) / 128 % 2 ≡ 0 → keyAt (w / 0x800000) ≡ entryOf w
+unfolding keyAt entryOf
+key-direct w h z = direct-by (classOf (w / 0x800000)) (w % 0x800000) (sorted (w / 0x800000) (omega arith)) z
+
+-- the five parts of the table of fields
+
+index-part : (n : ℕ) → n < 256 → fieldRow n ≡ lookup indexRows n
+unfolding fieldRow pick
+index-part n h = rw (lt-ltb n 256 h)
+
+byte-part : (n : ℕ) → n < 256 → fieldRow (256 + n) ≡ lookup byteRows n
+unfolding fieldRow pick
+byte-part n h =
+    let p : 256 + n - 256 ≡ n = omega arith in
+    rw (le-ltb (256 + n) 256 (omega arith), lt-ltb (256 + n) 512 (omega arith), p)
+
+port-part : (n : ℕ) → n < 2 → fieldRow (512 + n) ≡ lookup portRows n
+unfolding fieldRow pick
+port-part n h =
+    let p : 512 + n - 512 ≡ n = omega arith in
+    rw (le-ltb (512 + n) 256 (omega arith), le-ltb (512 + n) 512 (omega arith), lt-ltb (512 + n) 514 (omega arith), p)
+
+mask-part : (n : ℕ) → n < 2 → fieldRow (514 + n) ≡ lookup maskRows n
+unfolding fieldRow pick
+mask-part n h =
+    let p : 514 + n - 514 ≡ n = omega arith in
+    rw (le-ltb (514 + n) 256 (omega arith), le-ltb (514 + n) 512 (omega arith), le-ltb (514 + n) 514 (omega arith), lt-ltb (514 + n) 516 (omega arith), p)
+
+misc-part : (n : ℕ) → n < 128 → fieldRow (516 + n) ≡ lookup miscRows n
+unfolding fieldRow pick
+misc-part n h =
+    let p : 516 + n - 516 ≡ n = omega arith in
+    rw (le-ltb (516 + n) 256 (omega arith), le-ltb (516 + n) 512 (omega arith), le-ltb (516 + n) 514 (omega arith), le-ltb (516 + n) 516 (omega arith), p)
+
+-- the place that a key gives a word
+abbrev placeIn : ℕ → ℕ → ℕ
+placeIn key w = key / 0x200000 + bitAnd (w / 2 ^ (key / 0x10000 % 32)) (key / 0x100 % 256)
+
+abbrev Found : ℕ → ℕ → ℕ → Type 0
+Found c w i = (i < 644) × (fieldAt i ≡ entryAt (rowOf c (w % 0x800000)))
+
+-- what is found at place `from + n`, where n is the field
+place : (c w i from n size : ℕ) → i ≡ from + n → n < size → from + size ≤ 644 → fieldRow (from + n) ≡ rowOf c (w % 0x800000) → Found c w i
+unfolding fieldAt
+place c w i from n size e h l p = (omega arith, rw (e, p))
+
+field-by : (c w : ℕ) → Sort c → w < 0x100000000 → (keyBy c / 128 % 2 ≡ 0 → ⊥) → Found c w (placeIn (keyBy c) w)
+unfolding pick rowOf rowIn fieldOf codeAt choices
+field-by c w (inl h) hw z = absurd (z (rw (key-row c h) (plain c h)))
+field-by c w (inr (inl e)) hw z =
+    let n = w % 0x800000 / 256 % 256 in
+    rw e (place 240 w _ 0 n 256 (ap (λ x. 0 + x) (and-mask (w / 256) 8) ∙ omega arith) (omega arith) (omega arith) (rw zero-add (index-part n (omega arith))))
+field-by c w (inr (inr (inl e))) hw z =
+    let n = w % 0x800000 / 256 % 256 in
+    rw e (place 241 w _ 256 n 256 (ap (λ x. 256 + x) (and-mask (w / 256) 8) ∙ omega arith) (omega arith) (omega arith) (byte-part n (omega arith)))
+field-by c w (inr (inr (inr (inl e)))) hw z =
+    let n = w % 0x800000 / 32768 % 2 in
+    rw e (place 242 w _ 512 n 2 (ap (λ x. 512 + x) (and-mask (w / 32768) 1) ∙ omega arith) (omega arith) (omega arith) (port-part n (omega arith)))
+field-by c w (inr (inr (inr (inr (inl e))))) hw z =
+    let n = w % 0x800000 / 0x400000 % 2 in
+    rw e (place 243 w _ 514 n 2 (ap (λ x. 514 + x) (and-mask (w / 0x400000) 1) ∙ omega arith) (omega arith) (omega arith) (mask-part n (omega arith)))
+field-by c w (inr (inr (inr (inr (inr (inl e)))))) hw z =
+    let n = w % 0x800000 / 65536 in
+    rw e (place 244 w _ 516 n 128 (ap (λ x. 516 + x) (and-mask (w / 65536) 7) ∙ omega arith) (omega arith) (omega arith) (misc-part n (omega arith)))
+field-by c w (inr (inr (inr (inr (inr (inr e)))))) hw z = absurd (z (rw e))
+
+pub key-field : (w : ℕ) → w < 0x100000000 → (keyAt (w / 0x800000) / 128 % 2 ≡ 0 → ⊥) →
+    let key = keyAt (w / 0x800000) in
+    let i = key / 0x200000 + bitAnd (w / 2 ^ (key / 0x10000 % 32)) (key / 0x100 % 256) in
+    (i < 644) × (fieldAt i ≡ entryOf w)
+unfolding keyAt entryOf
+key-field w h z = field-by (classOf (w / 0x800000)) w (sorted (w / 0x800000) (omega arith)) h z
