@@ -2,15 +2,15 @@
 -- Assumes nothing.
 use Prim.Native.Nat.{ℕ, zero, suc, _+_, _-_, _*_, _/_, _%_, _^_, _≤_, _<_}
 use mathlib.Core.Path.{_≡_, refl, sym, ap, _∙_}
-use mathlib.Core.Bool.{_||_}
-use mathlib.Core.List.{List, [], _∷_, _++_}
+use mathlib.Core.Bool.{Bool, true, false, _||_}
+use mathlib.Core.List.{List, [], _∷_}
 use mathlib.Core.Logic.{_⊎_, inl, inr}
-use native.Mathlib.Nat.{zero-add}
+use native.Mathlib.Nat.{zero-add, add-zero, suc-add, add-suc, not-suc-le-zero, le-of-suc-le-suc}
 use native.Mathlib.Omega.{arith}
-use borrow.Author.Tests.{lt-ltb, le-ltb}
+use borrow.Author.Tests.{ltb-true, ltb-false, lt-ltb, le-ltb}
 use lib.Dec.{T, ltb, ltb→lt, eqb, eqb→eq}
 use lib.Bits.{bitAnd, and-mask, and-mod, and-shr, or-lt, or-disjoint}
-use lib.ListN.{length, getD}
+use lib.ListN.{length, getD, set}
 use Rattle.laws.specs.Choice.{pick, either}
 use Rattle.laws.specs.Table.{every, at-every, values, value-at}
 use Rattle.laws.specs.Test.{Holds, Member, member, member-holds, or-left, or-right, or-cases}
@@ -63,23 +63,50 @@ cost-at c l t q h = rw q (value-at (λ k. 2 + waitOf c (checkAt k)) 64 t 0 h)
 
 -- The table of masks
 
--- the mask of check t
-unfoldable pub maskAt : Config → ℕ → ℕ
-maskAt c t = maskOf (upperLimit c (checkAt t)) (lowerLimit c (checkAt t))
-
--- the first check refuses everything, and so does a number that is no check
-pub masks-are : (c : Config) → masks c ≡ 0xffffffff ∷ (values (maskAt c) 1 29 ++ values (λ t. 0xffffffff) 30 34)
-unfolding masks maskAt maskOf upperLimit available checkAt checks pick
-masks-are c = refl
-
--- a mask that is made of what stands in the tables of limits
-pub mask-by : (c : Config) (u l : List ℕ) (t m : ℕ) → u ≡ uppers c → l ≡ lowers c → t < 64 → m ≡ maskOf (getD u t 0) (getD l t 0) → m ≡ maskAt c t
-unfolding uppers lowers maskAt
-mask-by c u l t m p q h e =
-    rw (e, p, q, value-at (λ k. upperLimit c (checkAt k)) 64 t 0 h, value-at (λ k. lowerLimit c (checkAt k)) 64 t 0 h)
-
-pub both : {x y : ℕ} {xs ys : List ℕ} → x ≡ y → xs ≡ ys → x ∷ xs ≡ y ∷ ys
+both : {x y : ℕ} {xs ys : List ℕ} → x ≡ y → xs ≡ ys → x ∷ xs ≡ y ∷ ys
 both p q = rw (p, q)
+
+values-same : (f g : ℕ → ℕ) (j n : ℕ) → ((k : ℕ) → j ≤ k → f k ≡ g k) → values f j n ≡ values g j n
+values-same f g j zero s = refl
+values-same f g j (suc n) s = both (s j (omega arith)) (values-same f g (suc j) n (λ k h. s k (omega arith)))
+
+-- f with another value at j + m is g
+set-values : (f g : ℕ → ℕ) (n j m x : ℕ) → m < n → x ≡ g (j + m) → ((k : ℕ) → (k ≡ j + m → ⊥) → f k ≡ g k) → set (values f j n) m x ≡ values g j n
+set-values f g zero j m x h e s = absurd (not-suc-le-zero h)
+set-values f g (suc n) j zero x h e s =
+    both (rw add-zero at e) (values-same f g (suc j) n (λ k p. s k (λ q. omega arith)))
+set-values f g (suc n) j (suc m) x h e s =
+    both (s j (λ q. omega arith))
+    (set-values f g n (suc j) m x (le-of-suc-le-suc h) (rw (suc-add, ← add-suc) e) (λ k p. s k (λ q. p (rw (suc-add, ← add-suc) q))))
+
+-- the table of masks whose first i are filled in from tables of limits
+abbrev fillAt : List ℕ → List ℕ → ℕ → ℕ → ℕ
+fillAt u l i k = pick (ltb k i) (maskOf (getD u k 0) (getD l k 0)) 0xffffffff
+
+unfoldable pub filled : List ℕ → List ℕ → ℕ → List ℕ
+filled u l i = values (fillAt u l i) 0 64
+
+pub fill-start : (u l : List ℕ) → values (λ k. 0xffffffff) 0 64 ≡ filled u l 0
+unfolding filled pick
+fill-start u l = refl
+
+pub fill-next : (u l : List ℕ) (i x : ℕ) → i < 64 → x ≡ maskOf (getD u i 0) (getD l i 0) → set (filled u l i) i x ≡ filled u l (i + 1)
+unfolding filled pick
+fill-next u l i x h e =
+    set-values (fillAt u l i) (fillAt u l (i + 1)) 64 0 i x h (rw (zero-add, lt-ltb i (i + 1) (omega arith)) e) (λ k p. other k p (ltb k i) refl)
+  where
+    other : (k : ℕ) → (k ≡ 0 + i → ⊥) → (b : Bool) → ltb k i ≡ b → fillAt u l i k ≡ fillAt u l (i + 1) k
+    other k p true e =
+        let h = ltb-true k i e in
+        rw (e, lt-ltb k (i + 1) (omega arith))
+    other k p false e =
+        let h = ltb-false k i e in
+        rw (e, le-ltb k (i + 1) (omega arith))
+
+-- a number that is no check refuses everything
+pub fill-end : (c : Config) (u l : List ℕ) → u ≡ uppers c → l ≡ lowers c → filled u l 30 ≡ masks c
+unfolding filled uppers lowers masks maskOf upperLimit available checkAt checks pick
+fill-end c u l p q = rw (p, q)
 
 -- A word that is clear of its mask
 

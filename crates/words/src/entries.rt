@@ -359,76 +359,17 @@ fn mask_of(upper: u64, lower: u64) -> u32
     65536 * room(128, upper) + room(65536, lower)
 }
 
-// Both limits as one mask, by the check: a word with none of the mask's bits is within them.
+// Both limits as one mask, by the check: a word that is clear of it is within them.
 pub fn mask_table(c: Config) -> [u32; 64]
     ensures { λ r. ⌜ r ≡ masks c ⌝ }
 {
     let uppers = upper_limits(c);
     let lowers = lower_limits(c);
-    [
-        0xffffffff,
-        mask_of(uppers[1], lowers[1]),
-        mask_of(uppers[2], lowers[2]),
-        mask_of(uppers[3], lowers[3]),
-        mask_of(uppers[4], lowers[4]),
-        mask_of(uppers[5], lowers[5]),
-        mask_of(uppers[6], lowers[6]),
-        mask_of(uppers[7], lowers[7]),
-        mask_of(uppers[8], lowers[8]),
-        mask_of(uppers[9], lowers[9]),
-        mask_of(uppers[10], lowers[10]),
-        mask_of(uppers[11], lowers[11]),
-        mask_of(uppers[12], lowers[12]),
-        mask_of(uppers[13], lowers[13]),
-        mask_of(uppers[14], lowers[14]),
-        mask_of(uppers[15], lowers[15]),
-        mask_of(uppers[16], lowers[16]),
-        mask_of(uppers[17], lowers[17]),
-        mask_of(uppers[18], lowers[18]),
-        mask_of(uppers[19], lowers[19]),
-        mask_of(uppers[20], lowers[20]),
-        mask_of(uppers[21], lowers[21]),
-        mask_of(uppers[22], lowers[22]),
-        mask_of(uppers[23], lowers[23]),
-        mask_of(uppers[24], lowers[24]),
-        mask_of(uppers[25], lowers[25]),
-        mask_of(uppers[26], lowers[26]),
-        mask_of(uppers[27], lowers[27]),
-        mask_of(uppers[28], lowers[28]),
-        mask_of(uppers[29], lowers[29]),
-        0xffffffff,
-        0xffffffff,
-        0xffffffff,
-        0xffffffff,
-        0xffffffff,
-        0xffffffff,
-        0xffffffff,
-        0xffffffff,
-        0xffffffff,
-        0xffffffff,
-        0xffffffff,
-        0xffffffff,
-        0xffffffff,
-        0xffffffff,
-        0xffffffff,
-        0xffffffff,
-        0xffffffff,
-        0xffffffff,
-        0xffffffff,
-        0xffffffff,
-        0xffffffff,
-        0xffffffff,
-        0xffffffff,
-        0xffffffff,
-        0xffffffff,
-        0xffffffff,
-        0xffffffff,
-        0xffffffff,
-        0xffffffff,
-        0xffffffff,
-        0xffffffff,
-        0xffffffff,
-        0xffffffff,
-        0xffffffff,
-    ]
+    let mut t: [u32; 64] = [0xffffffff; 64];
+    let mut i: usize = 0;
+    while i < 30 {
+        t[i] = mask_of(uppers[i], lowers[i]);
+        i += 1;
+    }
+    t
 }
