@@ -70,7 +70,7 @@ values-same : (f g : ℕ → ℕ) (j n : ℕ) → ((k : ℕ) → j ≤ k → f k
 values-same f g j zero s = refl
 values-same f g j (suc n) s = both (s j (omega arith)) (values-same f g (suc j) n (λ k h. s k (omega arith)))
 
--- f with another value at j + m is g
+-- g is f with another value at j + m
 set-values : (f g : ℕ → ℕ) (n j m x : ℕ) → m < n → x ≡ g (j + m) → ((k : ℕ) → (k ≡ j + m → ⊥) → f k ≡ g k) → set (values f j n) m x ≡ values g j n
 set-values f g zero j m x h e s = absurd (not-suc-le-zero h)
 set-values f g (suc n) j zero x h e s =
@@ -129,12 +129,10 @@ upper-clear w u l p q e =
     let m = 65536 * (128 - u) + (65536 - l) in
     let high : m / 65536 % 128 ≡ 128 - u = omega arith in
     clear-below 7 (w / 65536 % 128) u (omega arith) p
-    (
-    ap (bitAnd (w / 65536 % 128)) (sym high)
+    (ap (bitAnd (w / 65536 % 128)) (sym high)
     ∙ sym (and-mod (w / 65536) (m / 65536) 7)
     ∙ ap (λ x. x % 128) (sym (and-shr w m 16))
-    ∙ ap (λ x. x / 65536 % 128) e
-    )
+    ∙ ap (λ x. x / 65536 % 128) e)
 
 -- word 0 has limits that are REG_SIZE
 

@@ -46,8 +46,8 @@ fieldTable = values fieldAt 0 644
 
 -- Checks
 
--- A word that has none of these bits is below `upper` in bits 22-16 and below `lower` in bits 15-0. All bits where a limit is 0, so that no word with a bit
--- passes.
+-- A word that has none of these bits is below `upper` in bits 22-16 and below `lower` in bits 15-0; where a limit is 0 these are all bits, and only word 0,
+-- whose limits are not 0, has none.
 unfoldable pub maskOf : ℕ → ℕ → ℕ
 maskOf upper lower = pick (eqb upper 0 || eqb lower 0) 0xffffffff (65536 * (128 - upper) + (65536 - lower))
 

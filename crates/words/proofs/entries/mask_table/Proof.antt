@@ -1,6 +1,6 @@
 -- `words::entries::mask_table` meets its contract. Assumes nothing.
 use Prim.Native.Nat.{_-_, _≤_}
-use mathlib.Core.Path.{_≡_, sym, _∙_}
+use mathlib.Core.Path.{_≡_, _∙_}
 use native.Mathlib.Omega.{arith}
 use Rattle.words.proofs.Found.{filled, fill-start, fill-next, fill-end}
 use borrow.Author.Needs.{needs}
