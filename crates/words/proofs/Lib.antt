@@ -1,5 +1,6 @@
 pub mod Digits
 pub mod Keys
+pub mod Quick
 pub mod RoundTrip
 pub mod ClassTable
 pub mod Lent

@@ -1,10 +1,10 @@
 -- Looking a word up by lent tables: the entry of its row, the limits of the entry's check, and the parts that an action reads. This is how code goes about
 -- a step, not what a reader must believe: proofs/Lookup.antt ties each of these to Rows, Words and Facts.
 use Prim.Native.Nat.{ℕ, _+_, _/_, _%_, _<_}
-use mathlib.Core.Bool.{_&&_, not}
+use mathlib.Core.Bool.{Bool, _&&_, not}
 use mathlib.Core.Path.{_≡_}
 use mathlib.Core.List.{List, [], _∷_}
-use lib.Dec.{T, eqb}
+use lib.Dec.{T, eqb, ltb}
 use lib.ListN.{getD}
 use Rattle.laws.specs.Choice.{pick}
 use Rattle.laws.specs.Test.{test, imp}
@@ -83,6 +83,18 @@ waits c = values (λ t. waitOf c (checkAt t)) 0 64
 pub record Quick (c : Config) (w : ℕ) : Type 0 where
   pub upper : w / 65536 % 128 < upperLimit c (checkAt (entryOf w % 64))
   pub lower : w % 65536 < lowerLimit c (checkAt (entryOf w % 64))
+
+-- whether word w, of row n, passes the check of its entry by lent tables
+unfoldable pub belowLent : List ℕ → List ℕ → List ℕ → ℕ → ℕ → Bool
+belowLent entry-list upper-list lower-list n w =
+    let t = getD entry-list n 0 % 64 in
+    ltb (w / 65536 % 128) (getD upper-list t 0) && ltb (w % 65536) (getD lower-list t 0)
+
+-- the entries and limits that are lent are these
+pub record Limits (c : Config) (entry-list upper-list lower-list : List ℕ) : Type 0 where
+  pub entries-right : entry-list ≡ entryTable
+  pub uppers-right : upper-list ≡ uppers c
+  pub lowers-right : lower-list ≡ lowers c
 
 -- Parts
 

@@ -8,11 +8,12 @@ use Rattle.laws.specs.Choice.{pick}
 use Rattle.laws.specs.Lists.{column}
 use Rattle.laws.specs.Table.{values}
 use Rattle.words.specs.declared.Config.{Config}
+use Rattle.words.specs.declared.Instruction.{Instruction}
 use Rattle.words.specs.Kinds.{marksOf}
 use Rattle.words.specs.Numbers.{CLZ}
 use Rattle.words.specs.Rows.{Row, noRow, rows}
-use Rattle.words.specs.Classes.{none, classOf}
-use Rattle.words.specs.Words.{Read, readBy}
+use Rattle.words.specs.Classes.{none, classOf, rowOf}
+use Rattle.words.specs.Words.{fieldsIn, spread, Read, readBy}
 
 -- hex digits from the right: flag, number, destination, source, value, option; two for the kind, two for the operation; form, condition; then the
 -- marks of the kind
@@ -72,6 +73,14 @@ pub record Tables (classes bases packs : List ℕ) : Type 0 where
 -- the row of number n by lent tables
 unfoldable pub rowLent : List ℕ → List ℕ → ℕ → Row
 rowLent bases packs n = unpack (getD bases n 0) (getD packs n noPacked)
+
+-- the row of word w by lent classes
+unfoldable pub numberLent : List ℕ → ℕ → ℕ
+numberLent classes w = rowOf (getD classes (w / 0x800000) none) (w % 0x800000)
+
+-- the parts of word w, of row n, by lent tables
+unfoldable pub partsLent : List ℕ → List ℕ → ℕ → ℕ → Instruction
+partsLent bases packs n w = spread (fieldsIn n (rowLent bases packs n) (w / 0x800000) (w % 0x800000))
 
 -- Reading by lent tables, whatever they hold. With the three tables above it is `readLawful` (proofs/Lent.antt, `lent`).
 unfoldable pub readLent : List ℕ → List ℕ → List ℕ → Config → ℕ → Read

@@ -5,6 +5,7 @@ use mathlib.Core.List.{List, [], _∷_}
 use lib.Dec.{eqb}
 use lib.ListN.{getD}
 use Rattle.laws.specs.Test.{Test, less, same, yes?, _and_}
+use Rattle.laws.specs.Table.{values}
 use Rattle.words.specs.declared.Config.{Config}
 
 -- what a part holds
@@ -73,6 +74,10 @@ limits c =
 
 unfoldable pub limit : Config → ℕ → ℕ
 limit c p = getD (limits c) p 0
+
+-- the limits as a table with a place for each hex digit
+unfoldable pub limitTable : Config → List ℕ
+limitTable c = values (limit c) 0 16
 
 -- the option that a row needs
 

@@ -3,7 +3,8 @@ ghost use mathlib.Core.Path.{_≡_};
 ghost use Prim.Native.Nat.{_-_, _%_, _<_};
 ghost use Rattle.words.specs.Answers.{readingOf, judged};
 ghost use Rattle.words.specs.Claims.{Reads};
-ghost use Rattle.words.specs.Packed.{unpack, readLent};
+ghost use Rattle.words.specs.Lookup.{belowLent};
+ghost use Rattle.words.specs.Packed.{unpack, numberLent, partsLent, readLent};
 ghost use Rattle.words.specs.Words.{flagIn, fieldsIn, spread, readLawful};
 use crate::Config;
 use crate::Fields;
@@ -15,7 +16,9 @@ use crate::rows::base_at;
 use crate::rows::class_at;
 use crate::rows::digit;
 use crate::rows::flag_digit;
+use crate::rows::limit_at;
 use crate::rows::packed_at;
+use crate::rows::pick;
 use crate::rows::row_of;
 use crate::tables::base_table;
 use crate::tables::class_table;
@@ -46,33 +49,15 @@ fn fields_in(n: u32, base: u32, p: u64, k: u32, f: u32) -> Fields
     let flag = flag_in(p, k);
     let number = less(k, base / 8388608 + 8 * flag);
     let holds = digit(p, 0x10000);
-    if holds == 0 {
-        return Fields {
-            row: n,
-            flag,
-            number,
-            upper: rest / 65536,
-            lower: rest % 65536,
-            value: 0,
-        };
-    }
-    if holds == 10 {
-        return Fields {
-            row: n,
-            flag,
-            number,
-            upper: 0,
-            lower: 0,
-            value: rest,
-        };
-    }
+    let high = rest / 65536;
+    let low = rest % 65536;
     Fields {
         row: n,
         flag,
         number,
-        upper: rest / 65536,
-        lower: 0,
-        value: rest % 65536,
+        upper: pick(holds == 0, high, pick(holds == 10, 0, high)),
+        lower: pick(holds == 0, low, 0),
+        value: pick(holds == 0, 0, pick(holds == 10, rest, low)),
     }
 }
 
@@ -120,6 +105,36 @@ pub fn read_word_lent(classes: &[u8], bases: &[u32], packs: &[u64], c: Config, w
     let there = available_in(c, digit(p, 0x100000));
     let fit = parts_fit(c, p, i);
     judge(n < numbers::ROW_COUNT, there, fit, i)
+}
+
+// The quick way by lent tables, in three calls, for callers that read many words: a word below the limits of its row's check is read, and has these parts
+// (proofs/Quick.antt, `quick-lent`). Whether another word can be read, `read_word_lent` answers. Each call is small, so that it is compiled into the
+// caller's loop.
+
+// The row of word w.
+pub fn row_lent(classes: &[u8], w: u32) -> u32
+    ensures { λ r. ⌜ r ≡ numberLent (now (classes .entry)) w ⌝ }
+{
+    row_of(class_at(classes, w / 8388608), w % 8388608)
+}
+
+// Whether word w, of row n, is below the two limits of its check.
+pub fn below_limits(entries: &[u32], uppers: &[u64], lowers: &[u64], n: u32, w: u32) -> bool
+    ensures { λ r. ⌜ r ≡ belowLent (now (entries .entry)) (now (uppers .entry)) (now (lowers .entry)) n w ⌝ }
+{
+    let t = base_at(entries, n) % 64;
+    let upper = (w / 65536 % 128) as u64;
+    let lower = (w % 65536) as u64;
+    (upper < limit_at(uppers, t)) & (lower < limit_at(lowers, t))
+}
+
+// The parts of word w, of row n.
+pub fn parts_lent(bases: &[u32], packs: &[u64], n: u32, w: u32) -> Instruction
+    ensures { λ r. ⌜ r ≡ partsLent (now (bases .entry)) (now (packs .entry)) n w ⌝ }
+{
+    let base = base_at(bases, n);
+    let p = packed_at(packs, n);
+    spread_fields(fields_in(n, base, p, w / 8388608, w % 8388608))
 }
 
 // Reading without a look at refusal 1, for callers that have validated the configuration.

@@ -17,9 +17,12 @@ mod rows;
 pub mod tables;
 mod verdict;
 
+pub use decode::below_limits;
+pub use decode::parts_lent;
 pub use decode::read_word;
 pub use decode::read_word_lawful;
 pub use decode::read_word_lent;
+pub use decode::row_lent;
 pub use encode::write_word;
 pub use entries::cost_table;
 pub use entries::entry_table;

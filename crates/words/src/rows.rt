@@ -20,7 +20,7 @@ const MISC: u32 = 244;
 
 const NONE: u32 = 255;
 
-fn pick(b: bool, x: u32, y: u32) -> u32
+pub fn pick(b: bool, x: u32, y: u32) -> u32
     ensures { λ r. ⌜ r ≡ choice b x y ⌝ }
 {
     if b { x } else { y }
@@ -147,6 +147,13 @@ pub fn packed_at(packs: &[u64], n: u32) -> u64
     } else {
         0xa00000
     }
+}
+
+pub fn limit_at(limits: &[u64], n: u32) -> u64
+    ensures { λ r. ⌜ r ≡ getD (now (limits .entry)) n 0 ⌝ }
+{
+    let at = n as usize;
+    if at < limits.len() { limits[at] } else { 0 }
 }
 
 // What the flag part holds: the lowest digit of a row's packed number.

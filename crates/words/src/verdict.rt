@@ -2,40 +2,55 @@
 ghost use mathlib.Core.Path.{_≡_};
 ghost use lib.ListN.{getD};
 ghost use Rattle.laws.specs.Test.{test};
-ghost use Rattle.words.specs.Parts.{limits, limit, available};
+ghost use Rattle.words.specs.Parts.{limitTable, available};
 ghost use Rattle.words.specs.Packed.{unpack};
 ghost use Rattle.words.specs.Words.{shiftCount, fits};
 use crate::Config;
 use crate::Instruction;
 use crate::rows::digit;
-use crate::rows::flag_digit;
 
 // Whether the configuration has the option that a row needs.
 pub fn available_in(c: Config, option: u32) -> bool
     ensures { λ r. ⌜ r ≡ test (available c option) ⌝ }
 {
-    let options = [
-        true,
-        c.alumult == 1,
-        0 < c.alulevel,
-        1 < c.alulevel,
-        (1 < c.alulevel) & (0 < c.dmsize),
-        0 < c.dmsize,
-        c.iopif == 1,
-        c.ioprmw == 1,
-        c.regsize < c.rmsize,
-        c.aluspr == 1,
-        false,
-    ];
-    let at = option as usize;
-    if at < 11 { options[at] } else { false }
+    if option == 0 {
+        return true;
+    }
+    if option == 1 {
+        return c.alumult == 1;
+    }
+    if option == 2 {
+        return 0 < c.alulevel;
+    }
+    if option == 3 {
+        return 1 < c.alulevel;
+    }
+    if option == 4 {
+        return (1 < c.alulevel) & (0 < c.dmsize);
+    }
+    if option == 5 {
+        return 0 < c.dmsize;
+    }
+    if option == 6 {
+        return c.iopif == 1;
+    }
+    if option == 7 {
+        return c.ioprmw == 1;
+    }
+    if option == 8 {
+        return c.regsize < c.rmsize;
+    }
+    if option == 9 {
+        return c.aluspr == 1;
+    }
+    false
 }
 
-// What a part stays below, by what it holds.
-fn limit_of(c: Config, part: u32) -> u32
-    ensures { λ r. ⌜ r ≡ limit c part ⌝ }
+// What a part stays below, by what it holds; past the last, 0.
+fn limit_table(c: Config) -> [u32; 16]
+    ensures { λ r. ⌜ r ≡ limitTable c ⌝ }
 {
-    let limits = [
+    [
         1,
         2,
         c.regwidth / 8,
@@ -50,9 +65,9 @@ fn limit_of(c: Config, part: u32) -> u32
         16,
         65536,
         256,
-    ];
-    let at = part as usize;
-    if at < 14 { limits[at] } else { 0 }
+        0,
+        0,
+    ]
 }
 
 // At level 0 a shift is by 1.
@@ -66,12 +81,13 @@ fn count_fits(level: u32, part: u32, v: u32) -> bool
 pub fn parts_fit(c: Config, p: u64, i: Instruction) -> bool
     ensures { λ r. ⌜ r ≡ test (fits c (unpack 0 p) i) ⌝ }
 {
-    let flag = limit_of(c, flag_digit(p));
-    let number = limit_of(c, digit(p, 0x10));
-    let destination = limit_of(c, digit(p, 0x100));
-    let source = limit_of(c, digit(p, 0x1000));
+    let limits = limit_table(c);
+    let flag = limits[(p % 16) as usize];
+    let number = limits[(p / 0x10 % 16) as usize];
+    let destination = limits[(p / 0x100 % 16) as usize];
+    let source = limits[(p / 0x1000 % 16) as usize];
     let holds = digit(p, 0x10000);
-    let value = limit_of(c, holds);
+    let value = limits[holds as usize];
     let counted = count_fits(c.alulevel, holds, i.value);
     (i.flag < flag)
         & ((i.number < number)

@@ -1,7 +1,8 @@
 -- `words::decode::fields_in` meets its contract. Assumes nothing.
 use Prim.Native.Nat.{ℕ, _+_, _-_, _*_, _/_, _%_}
-use mathlib.Core.Path.{_≡_}
-use borrow.Author.Tests.{lt-ltb, le-ltb, le-leb, lt-leb, eq-eqb, ne-eqb, not-true, not-false}
+use mathlib.Core.Path.{_≡_, refl}
+use mathlib.Core.Bool.{Bool, true, false}
+use lib.Dec.{eqb}
 use Rattle.laws.specs.Choice.{pick}
 use Rattle.words.specs.declared.Fields.{Fields}
 use Rattle.words.specs.Words.{Layout, registers, upper-value, whole, flagIn, layoutOf, upperIn, lowerIn, valueIn, fieldsIn}
@@ -10,27 +11,41 @@ use borrow.Author.Needs.{needs}
 use Rattle.words.proofs.decode.fields_in.Statement.{statement}
 use Rattle.words.proofs.decode.fields_in.Tie as tie
 
--- the fields by their layout
-laid : (n base p k f rest flag number : ℕ) (y : Layout) → layoutOf (p / 0x10000 % 16) ≡ y → rest ≡ f - base % 0x800000 → flag ≡ flagIn (p % 16) k →
-    number ≡ k - (base / 0x800000 + 8 * flag) →
-    _≡_ {A = Fields} (record { row = n; flag = flag; number = number; upper = upperIn y rest; lower = lowerIn y rest; value = valueIn y rest })
+-- the layout by the two tests of what the value part holds
+abbrev laid-by : Bool → Bool → Layout
+laid-by a b = pick a registers (pick b whole upper-value)
+
+upper-by : (a b : Bool) (f : ℕ) → pick a (f / 65536) (pick b 0 (f / 65536)) ≡ upperIn (laid-by a b) f
+unfolding pick upperIn
+upper-by true b f = refl
+upper-by false true f = refl
+upper-by false false f = refl
+
+lower-by : (a b : Bool) (f : ℕ) → pick a (f % 65536) 0 ≡ lowerIn (laid-by a b) f
+unfolding pick lowerIn
+lower-by true b f = refl
+lower-by false true f = refl
+lower-by false false f = refl
+
+value-by : (a b : Bool) (f : ℕ) → pick a 0 (pick b f (f % 65536)) ≡ valueIn (laid-by a b) f
+unfolding pick valueIn
+value-by true b f = refl
+value-by false true f = refl
+value-by false false f = refl
+
+laid : (n base p k f rest flag number h u upper lower v value : ℕ) → rest ≡ f - base % 0x800000 → flag ≡ flagIn (p % 16) k →
+    number ≡ k - (base / 0x800000 + 8 * flag) → h ≡ p / 0x10000 % 16 → u ≡ pick (eqb h 10) 0 (rest / 65536) → upper ≡ pick (eqb h 0) (rest / 65536) u →
+    lower ≡ pick (eqb h 0) (rest % 65536) 0 → v ≡ pick (eqb h 10) rest (rest % 65536) → value ≡ pick (eqb h 0) 0 v →
+    _≡_ {A = Fields} (record { row = n; flag = flag; number = number; upper = upper; lower = lower; value = value })
     (fieldsIn n (unpack base p) k f)
-unfolding fieldsIn
-laid n base p k f rest flag number y e q s t = cc
+unfolding fieldsIn layoutOf
+laid n base p k f rest flag number h u upper lower v value er ef en eh eu eupper elower ev evalue =
+    rw (evalue, ev, elower, eupper, eu, upper-by (eqb h 0) (eqb h 10) rest, lower-by (eqb h 0) (eqb h 10) rest, value-by (eqb h 0) (eqb h 10) rest, en, ef, eh, er)
 
 returns : tie.Need-returns
-unfolding layoutOf upperIn lowerIn valueIn pick
-returns c = laid _ _ _ _ _ _ _ _ registers (simp (eq-eqb _ _ (rw (c .before .digit .ensures) at (c .if1 .taken)))) (c .before .before .before .before .less .ensures) (c .before .before .before .flag-in .ensures .0) (c .before .before .less2 .ensures)
-
-returns-2 : tie.Need-returns-2
-unfolding layoutOf upperIn lowerIn valueIn pick
-returns-2 c = laid _ _ _ _ _ _ _ _ whole (simp (ne-eqb _ _ (rw (c .before .before .digit .ensures) at (c .before .if1 .left)), eq-eqb _ _ (rw (c .before .before .digit .ensures) at (c .if2 .taken)))) (c .before .before .before .before .before .less .ensures) (c .before .before .before .before .flag-in .ensures .0) (c .before .before .before .less2 .ensures)
-
-returns-3 : tie.Need-returns-3
-unfolding layoutOf upperIn lowerIn valueIn pick
-returns-3 c = laid _ _ _ _ _ _ _ _ upper-value (simp (ne-eqb _ _ (rw (c .before .before .digit .ensures) at (c .before .if1 .left)), ne-eqb _ _ (rw (c .before .before .digit .ensures) at (c .if2 .left)))) (c .before .before .before .before .before .less .ensures) (c .before .before .before .before .flag-in .ensures .0) (c .before .before .before .less2 .ensures)
+returns c = laid _ _ _ _ _ _ _ _ _ _ _ _ _ _ (c .before .before .before .before .before .before .before .before .less .ensures) (c .before .before .before .before .before .before .before .flag-in .ensures .0) (c .before .before .before .before .before .before .less2 .ensures) (c .before .before .before .before .before .digit .ensures) (c .before .before .before .before .pick .ensures) (c .before .before .before .pick2 .ensures) (c .before .before .pick3 .ensures) (c .before .pick4 .ensures) (c .pick5 .ensures)
 
 pub fields-in-spec : {M : Type 1} → statement M
 fields-in-spec =
     tie.close
-    (tie.spec (λ c κs. search needs) (λ c κs. search needs) (λ c. search needs) (λ c. search needs) (λ c κs. search needs) (λ c κs. search needs) returns returns-2 returns-3)
+    (tie.spec (λ c κs. search needs) (λ c κs. search needs) (λ c. search needs) (λ c. search needs) (λ c κs. search needs) (λ c κs. search needs) (λ c κs. search needs) (λ c κs. search needs) (λ c κs. search needs) (λ c κs. search needs) (λ c κs. search needs) returns)

@@ -1,0 +1,12 @@
+-- `words::rows::limit_at` meets its contract. Assumes nothing.
+use mathlib.Core.Path.{sym}
+use lib.ListN.{List·getD-eq-default}
+use borrow.Author.Needs.{needs}
+use Rattle.words.proofs.rows.limit_at.Statement.{statement}
+use Rattle.words.proofs.rows.limit_at.Tie as tie
+
+returns-2 : tie.Need-returns-2
+returns-2 c = sym (List·getD-eq-default (c .before .args .limits .now) 0 (c .if1 .left))
+
+pub limit-at-spec : {M : Type 1} → statement M
+limit-at-spec = tie.close (tie.spec (λ c. search needs) (λ c. search needs) (λ c. search needs) returns-2)
