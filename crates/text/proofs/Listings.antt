@@ -9,8 +9,8 @@ use native.Mathlib.Omega.{arith}
 use borrow.Author.Tests.{eq-eqb, ne-eqb, lt-leb, le-leb, not-true, not-false}
 use lib.Dec.{leb, eqb}
 use lib.ListN.{length, getD, length-append}
-use Rattle.laws.specs.Choice.{pick}
-use Rattle.laws.specs.Test.{test}
+use Rattle.laws.specs.Choice.{pick, true-is}
+use Rattle.laws.specs.Test.{test, Holds, holds}
 use Rattle.words.specs.declared.Config.{Config}
 use Rattle.words.specs.Configs.{lawful}
 use Rattle.text.specs.Letters.{space, newline}
@@ -79,6 +79,18 @@ module _ (c : Config) (words size place : ℕ) (l : Bool) (e : l ≡ test (lawfu
   pub number-0 : not l ≡ false → words ≡ c .imsize → place ≤ size → 0 ≡ listNumber c words size place
   unfolding listNumber pick
   number-0 h n k = rw (← e, not-false l h, eq-eqb words (c .imsize) n, le-leb place size k)
+
+zero-not-one : _≡_ {A = ℕ} 0 1 → ⊥
+zero-not-one e = omega (arith, e)
+
+-- no refusal: the configuration is lawful
+pub listed-lawful : (c : Config) (words size place n : ℕ) → n ≡ listNumber c words size place → n ≡ 0 → Holds (lawful c)
+unfolding listNumber pick
+listed-lawful c words size place n e z = go (test (lawful c)) refl
+  where
+    go : (b : Bool) → test (lawful c) ≡ b → Holds (lawful c)
+    go true t = holds (lawful c) (true-is _ t)
+    go false t = absurd (zero-not-one (sym z ∙ (rw t at e)))
 
 pub refused-list : (c : Config) (image page : List ℕ) (first place n : ℕ) → n ≡ listNumber c (length image) (length page) place → (n ≡ 0 → ⊥) →
     listing n place first page ≡ listOf c image first page place

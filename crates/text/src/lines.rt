@@ -3,6 +3,9 @@ ghost use mathlib.Core.Path.{_≡_};
 ghost use mathlib.Core.List.{_++_};
 ghost use Prim.Native.Nat.{_<_, _≤_, _+_};
 ghost use lib.ListN.{length};
+ghost use Rattle.laws.specs.Test.{Holds};
+ghost use Rattle.words.specs.Configs.{lawful};
+ghost use Rattle.words.specs.Lookup.{Limits};
 ghost use Rattle.words.specs.Packed.{Tables};
 ghost use Rattle.text.specs.Digits.{hex, unpacked};
 ghost use Rattle.text.specs.Lines.{lineOf};
@@ -72,8 +75,8 @@ fn shown_form(c: Config, strings: &[u64], sizes: &[u8], styles: &[u64], i: Instr
     f
 }
 
-// What stands in a listing for word w, read by the lent tables.
-pub fn word_form(
+// What stands in a listing for word w, read by the lent tables with each refusal tested.
+fn exact_form(
     c: Config,
     classes: &[u8],
     bases: &[u32],
@@ -91,6 +94,31 @@ pub fn word_form(
         Reading::Refused(x) => refused_form(x.number()),
         Reading::Decoded(i) => shown_form(c, strings, sizes, styles, i),
     }
+}
+
+// What stands in a listing for word w, read by the lent tables: as a rule by its limits alone.
+pub fn word_form(
+    c: Config,
+    classes: &[u8],
+    bases: &[u32],
+    packs: &[u64],
+    entries: &[u32],
+    uppers: &[u64],
+    lowers: &[u64],
+    strings: &[u64],
+    sizes: &[u8],
+    styles: &[u64],
+    w: u32,
+) -> Form
+    requires { ⌜ Tables (now classes) (now bases) (now packs) × Limits c (now entries) (now uppers) (now lowers) × Holds (lawful c) × Lent (now strings) (now sizes) (now styles) ⌝ }
+    ensures { λ r. ⌜ formText r ≡ wordText c w ⌝ }
+{
+    let n = words::row_lent(classes, w);
+    if words::below_limits(entries, uppers, lowers, n, w) {
+        let i = words::parts_lent(bases, packs, n, w);
+        return shown_form(c, strings, sizes, styles, i);
+    }
+    exact_form(c, classes, bases, packs, strings, sizes, styles, w)
 }
 
 pub fn line_len(f: Form) -> usize

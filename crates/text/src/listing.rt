@@ -2,6 +2,9 @@
 ghost use mathlib.Core.Path.{_≡_};
 ghost use Prim.Native.Nat.{_-_};
 ghost use lib.ListN.{length};
+ghost use Rattle.laws.specs.Test.{Holds};
+ghost use Rattle.words.specs.Configs.{lawful};
+ghost use Rattle.words.specs.Lookup.{Limits};
 ghost use Rattle.words.specs.Packed.{Tables};
 ghost use Rattle.text.specs.Answers.{listedOf};
 ghost use Rattle.text.specs.Claims.{Lists};
@@ -23,6 +26,9 @@ fn list_lines(
     classes: &[u8],
     bases: &[u32],
     packs: &[u64],
+    entries: &[u32],
+    uppers: &[u64],
+    lowers: &[u64],
     strings: &[u64],
     sizes: &[u8],
     styles: &[u64],
@@ -31,14 +37,26 @@ fn list_lines(
     page: &mut [u8],
     place: usize,
 ) -> Listed
-    requires { ⌜ Tables (now classes) (now bases) (now packs) × Lent (now strings) (now sizes) (now styles) ⌝ }
+    requires { ⌜ Tables (now classes) (now bases) (now packs) × Limits c (now entries) (now uppers) (now lowers) × Holds (lawful c) × Lent (now strings) (now sizes) (now styles) ⌝ }
     ensures { λ r. ⌜ listedOf r (now (page .exit)) ≡ listed c (now (image .entry)) (now (page .entry)) place first (length (now (image .entry)) - first) ⌝ }
 {
     let mut at = place;
     let mut a = first;
     while a < image.len() {
         let w = image[a];
-        let f = word_form(c, classes, bases, packs, strings, sizes, styles, w);
+        let f = word_form(
+            c,
+            classes,
+            bases,
+            packs,
+            entries,
+            uppers,
+            lowers,
+            strings,
+            sizes,
+            styles,
+            w,
+        );
         if !has_room(page.len(), at, line_len(f)) {
             return Listed {
                 number: 18,
@@ -87,6 +105,9 @@ fn list_answer(c: Config, image: &[u32], first: usize, page: &mut [u8], place: u
     let classes = words::class_table();
     let bases = words::base_table();
     let packs = words::row_table();
+    let entries = words::entry_table();
+    let uppers = words::upper_limits(c);
+    let lowers = words::lower_limits(c);
     let strings = string_table();
     let sizes = size_table();
     let styles = style_table();
@@ -95,6 +116,9 @@ fn list_answer(c: Config, image: &[u32], first: usize, page: &mut [u8], place: u
         &classes,
         &bases,
         &packs,
+        &entries,
+        &uppers,
+        &lowers,
         &strings,
         &sizes,
         &styles,

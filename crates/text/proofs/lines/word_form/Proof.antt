@@ -1,20 +1,21 @@
 -- `text::lines::word_form` meets its contract. Assumes nothing.
-use native.Mathlib.Omega.{arith}
-use Rattle.text.proofs.Printing.{small-number, read-here, refused-word, decoded-word}
+use mathlib.Core.Path.{sym, _∙_}
+use Rattle.words.proofs.Quick.{quick-lent}
+use Rattle.text.proofs.Printing.{decoded-word}
 use borrow.Author.Needs.{needs}
 use Rattle.text.proofs.lines.word_form.Statement.{statement}
 use Rattle.text.proofs.lines.word_form.Tie as tie
 
-refused-form-requires : tie.Need-refused-form-requires
-refused-form-requires c κs = small-number _ _ (c .number .ensures)
+shown-form-requires : tie.Need-shown-form-requires
+shown-form-requires c κs = c .before .before .before .before .before .before .before .before .before .before .before .before .before .pre .3
 
 returns : tie.Need-returns
-returns c = refused-word (c .before .before .before .before .before .before .before .before .before .before .before .before .args .c) (c .before .before .before .before .before .before .before .before .before .before .before .before .args .w) _ _ _ (read-here _ _ _ (c .before .before .before .before .before .before .before .before .before .before .before .before .args .c) (c .before .before .before .before .before .before .before .before .before .before .before .before .args .w) _ _ (c .before .before .before .before .before .before .before .before .before .before .before .before .pre .0) (c .before .before .before .before .before .before .before .before .before .before .before .before .fits .w .fits) (c .before .before .before .r .given .1) (c .before .before .before .before .before .read-word-lent .ensures)) (c .before .number .ensures) (c .refused-form .ensures)
+returns c = decoded-word (c .before .before .before .before .before .before .before .before .before .before .before .before .before .before .args .c) (c .before .before .before .before .before .before .before .before .before .before .before .before .before .before .args .w) _ _ (quick-lent _ _ _ _ _ _ (c .before .before .before .before .before .before .before .before .before .before .before .before .before .before .args .c) (c .before .before .before .before .before .before .before .before .before .before .before .before .before .before .args .w) _ (c .before .before .before .before .before .before .before .before .before .before .before .before .before .before .pre .0) (c .before .before .before .before .before .before .before .before .before .before .before .before .before .before .pre .1) (c .before .before .before .before .before .before .before .before .before .before .before .before .before .before .fits .w .fits) (c .before .before .before .before .row-lent .ensures) (c .before .before .before .before .before .before .before .before .before .before .before .before .before .before .pre .2) (sym (c .before .before .before .below-limits .ensures) ∙ c .before .before .if1 .taken) _ (c .before .parts-lent .ensures)) (c .shown-form .ensures)
 
-returns-2 : tie.Need-returns-2
-returns-2 c = decoded-word (c .before .before .before .before .before .before .before .before .before .before .before .args .c) (c .before .before .before .before .before .before .before .before .before .before .before .args .w) _ _ (read-here _ _ _ (c .before .before .before .before .before .before .before .before .before .before .before .args .c) (c .before .before .before .before .before .before .before .before .before .before .before .args .w) _ _ (c .before .before .before .before .before .before .before .before .before .before .before .pre .0) (c .before .before .before .before .before .before .before .before .before .before .before .fits .w .fits) (c .before .before .r2 .given .1) (c .before .before .before .before .read-word-lent .ensures)) (c .shown-form .ensures)
+exact-form-requires : tie.Need-exact-form-requires
+exact-form-requires c κs = (c .before .before .before .before .before .before .before .before .before .before .before .before .pre .0, c .before .before .before .before .before .before .before .before .before .before .before .before .pre .3)
 
 pub word-form-spec : {M : Type 1} → statement M
 word-form-spec =
     tie.close
-    (tie.spec (λ c κs. search needs) (λ c. search needs) (λ c κs. search needs) refused-form-requires (λ c. search needs) (λ c κs. search needs) returns returns-2)
+    (tie.spec (λ c κs. search needs) (λ c κs. search needs) (λ c κs. search needs) shown-form-requires returns exact-form-requires (λ c. search needs))
