@@ -1,11 +1,12 @@
 -- The eight rules at one address, as the code asks them.
 -- Assumes nothing.
 use Prim.Native.Nat.{ℕ, _+_}
-use mathlib.Core.Path.{_≡_, ap, _∙_}
+use mathlib.Core.Path.{_≡_, refl, ap, _∙_}
 use mathlib.Core.Bool.{Bool, true, false, not, _&&_, _||_}
 use mathlib.Core.List.{List}
 use lib.Dec.{eqb}
 use lib.ListN.{getD}
+use Rattle.laws.specs.Choice.{pick}
 use Rattle.laws.specs.Test.{test, imp, most, yes?, if?}
 use Rattle.words.specs.declared.Config.{Config}
 use Rattle.words.specs.declared.Facts.{Facts}
@@ -34,6 +35,17 @@ output-then c image next w l f output p q e o =
     let n = p .number-right in
     let i : f .input ≡ _ = ap (λ (x : Facts). x .input) (e ∙ p .facts-right) in
     rw (o, n, i, q)
+
+-- an unused address: rules 2 to 8 do not bind it
+unused-first : (b : Bool) → pick {A = ℕ} b 1 0 ≡ pick (imp b false) 0 1
+unfolding pick
+unused-first true = refl
+unused-first false = refl
+
+pub unused-address : (c : Config) (image certificate : List ℕ) (a x r : ℕ) → x ≡ markAt certificate a → x ≡ 255 → r ≡ pick (eqb a 0) 1 0 →
+    r ≡ lowest c image certificate a
+unfolding rules pick
+unused-address c image certificate a x r ex e er = rw (er, ← ex, e) (unused-first (eqb a 0))
 
 -- the rules on what the code has in hand are the rules at the address
 pub at-address : (c : Config) (image certificate : List ℕ) (a w limit x n t : ℕ) (l : Parts) (f : Facts) (quiet : Bool) → PartsOf c w l →

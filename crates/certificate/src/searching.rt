@@ -2,15 +2,20 @@
 ghost use mathlib.Core.Path.{_≡_};
 ghost use mathlib.Core.Bool.{not};
 ghost use Prim.Native.Nat.{_<_};
-ghost use Rattle.laws.specs.Test.{imp};
+ghost use lib.Dec.{eqb};
+ghost use Rattle.laws.specs.Choice.{pick};
+ghost use Rattle.laws.specs.Test.{imp, Holds};
 ghost use Rattle.rules.specs.Marks.{markAt, levelOf};
 ghost use Rattle.rules.specs.Rules.{readsPort};
 ghost use Rattle.rules.specs.Claims.{Checks};
 ghost use Rattle.rules.specs.Check.{passed, lowest, firstBroken, checkOf};
 ghost use Rattle.certificate.specs.Answers.{answerOf};
+ghost use Rattle.words.specs.Configs.{lawful};
+ghost use Rattle.words.specs.Lookup.{Limits};
 ghost use Rattle.words.specs.Packed.{Tables};
 use crate::Checked;
 use crate::judging::lowest_rule;
+use crate::reading::exact_look;
 use crate::reading::look;
 use crate::reading::mark_at;
 use crate::reading::word_at;
@@ -33,25 +38,48 @@ fn rule_8(
     if !output {
         return true;
     }
-    let l = look(c, classes, bases, packs, word_at(image, next));
+    let l = exact_look(c, classes, bases, packs, word_at(image, next));
     let f = words::facts_in(l.packed);
     !((l.number == 0) & f.input)
 }
 
-// The lowest rule that address a breaks by itself or its successors; 0: none.
+// Rule 1 at address a, which is unused: address 0 must not be.
+fn unused_rule(a: usize) -> u32
+    ensures { λ r. ⌜ r ≡ pick (eqb a 0) 1 0 ⌝ }
+{
+    if a == 0 { 1 } else { 0 }
+}
+
+// The lowest rule that address a breaks by itself or its successors; 0: none. An unused address is not read.
 fn rule_at(
     c: Config,
     classes: &[u8],
     bases: &[u32],
     packs: &[u64],
+    entries: &[u32],
+    uppers: &[u64],
+    lowers: &[u64],
     image: &[u32],
     certificate: &[u8],
     a: usize,
 ) -> u32
-    requires { ⌜ Tables (now classes) (now bases) (now packs) × (a < 4294967296) ⌝ }
+    requires { ⌜ Tables (now classes) (now bases) (now packs) × Limits c (now entries) (now uppers) (now lowers) × Holds (lawful c) × (a < 4294967296) ⌝ }
     ensures { λ r. ⌜ r ≡ lowest c (now (image .entry)) (now (certificate .entry)) a ⌝ }
 {
-    let l = look(c, classes, bases, packs, word_at(image, a));
+    let x = mark_at(certificate, a);
+    if x == 255 {
+        return unused_rule(a);
+    }
+    let l = look(
+        c,
+        classes,
+        bases,
+        packs,
+        entries,
+        uppers,
+        lowers,
+        word_at(image, a),
+    );
     let f = words::facts_in(l.packed);
     let target = l.value as usize;
     let next = a + 1;
@@ -64,7 +92,7 @@ fn rule_at(
         l.source,
         target,
         f,
-        mark_at(certificate, a),
+        x,
         mark_at(certificate, next),
         mark_at(certificate, target),
         rule_8(c, classes, bases, packs, image, next, f.output),
@@ -78,16 +106,30 @@ fn first_broken(
     classes: &[u8],
     bases: &[u32],
     packs: &[u64],
+    entries: &[u32],
+    uppers: &[u64],
+    lowers: &[u64],
     image: &[u32],
     certificate: &[u8],
 ) -> Checked
-    requires { ⌜ Tables (now classes) (now bases) (now packs) ⌝ }
+    requires { ⌜ Tables (now classes) (now bases) (now packs) × Limits c (now entries) (now uppers) (now lowers) × Holds (lawful c) ⌝ }
     ensures { λ r. ⌜ answerOf r ≡ firstBroken (lowest c (now (image .entry)) (now (certificate .entry))) (passed (levelOf (markAt (now (certificate .entry)) 0))) (c .imsize) 0 ⌝ }
 {
     let size = c.imsize as usize;
     let mut a = 0;
     while a < size {
-        let rule = rule_at(c, classes, bases, packs, image, certificate, a);
+        let rule = rule_at(
+            c,
+            classes,
+            bases,
+            packs,
+            entries,
+            uppers,
+            lowers,
+            image,
+            certificate,
+            a,
+        );
         if rule != 0 {
             let address = a as u32;
             return Checked::Broken(address, rule);
@@ -111,7 +153,20 @@ fn check_answer(c: Config, image: &[u32], certificate: &[u8]) -> Checked
     let classes = words::class_table();
     let bases = words::base_table();
     let packs = words::row_table();
-    first_broken(c, &classes, &bases, &packs, image, certificate)
+    let entries = words::entry_table();
+    let uppers = words::upper_limits(c);
+    let lowers = words::lower_limits(c);
+    first_broken(
+        c,
+        &classes,
+        &bases,
+        &packs,
+        &entries,
+        &uppers,
+        &lowers,
+        image,
+        certificate,
+    )
 }
 
 // The check of a certificate: exactly when it passes, the configuration is lawful, the lengths are right and the eight rules hold; and then demand 3
