@@ -58,6 +58,10 @@ digitRow digits n = let d = digits / 2 ^ (4 * n) % 16 in pick (eqb d 0) none (CL
 unfoldable pub classTable : List ℕ
 classTable = values classOf 0 512
 
+-- the classes of keys 8 j to 8 j + 7, a byte each
+unfoldable pub eightClasses : ℕ → ℕ
+eightClasses j = classOf (8 * j) + 256 * (classOf (8 * j + 1) + 256 * (classOf (8 * j + 2) + 256 * (classOf (8 * j + 3) + 256 * (classOf (8 * j + 4) + 256 * (classOf (8 * j + 5) + 256 * (classOf (8 * j + 6) + 256 * classOf (8 * j + 7)))))))
+
 unfoldable pub baseTable : List ℕ
 baseTable = column (λ (r : Row). r .base) rows
 

@@ -20,9 +20,9 @@ use crate::rows::limit_at;
 use crate::rows::packed_at;
 use crate::rows::pick;
 use crate::rows::row_of;
-use crate::tables::base_table;
-use crate::tables::class_table;
-use crate::tables::row_table;
+use crate::single::base_of;
+use crate::single::class_of;
+use crate::single::packed_of;
 use crate::verdict::available_in;
 use crate::verdict::parts_fit;
 
@@ -141,10 +141,15 @@ pub fn parts_lent(bases: &[u32], packs: &[u64], n: u32, w: u32) -> Instruction
 pub fn read_word_lawful(c: Config, w: u32) -> Reading
     ensures { λ r. ⌜ readingOf r ≡ readLawful c w ⌝ }
 {
-    let classes = class_table();
-    let bases = base_table();
-    let packs = row_table();
-    read_word_lent(&classes, &bases, &packs, c, w)
+    let k = w / 8388608;
+    let f = w % 8388608;
+    let n = row_of(class_of(k), f);
+    let base = base_of(n);
+    let p = packed_of(n);
+    let i = spread_fields(fields_in(n, base, p, k, f));
+    let there = available_in(c, digit(p, 0x100000));
+    let fit = parts_fit(c, p, i);
+    judge(n < numbers::ROW_COUNT, there, fit, i)
 }
 
 // What a word says: the instruction, or the refusal. Where it is an instruction, writing that gives the word.

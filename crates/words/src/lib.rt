@@ -14,6 +14,7 @@ pub mod kinds;
 pub mod meaning;
 pub mod numbers;
 mod rows;
+mod single;
 pub mod tables;
 mod verdict;
 

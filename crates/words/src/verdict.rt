@@ -13,37 +13,21 @@ use crate::rows::digit;
 pub fn available_in(c: Config, option: u32) -> bool
     ensures { λ r. ⌜ r ≡ test (available c option) ⌝ }
 {
-    if option == 0 {
-        return true;
-    }
-    if option == 1 {
-        return c.alumult == 1;
-    }
-    if option == 2 {
-        return 0 < c.alulevel;
-    }
-    if option == 3 {
-        return 1 < c.alulevel;
-    }
-    if option == 4 {
-        return (1 < c.alulevel) & (0 < c.dmsize);
-    }
-    if option == 5 {
-        return 0 < c.dmsize;
-    }
-    if option == 6 {
-        return c.iopif == 1;
-    }
-    if option == 7 {
-        return c.ioprmw == 1;
-    }
-    if option == 8 {
-        return c.regsize < c.rmsize;
-    }
-    if option == 9 {
-        return c.aluspr == 1;
-    }
-    false
+    let options = [
+        true,
+        c.alumult == 1,
+        0 < c.alulevel,
+        1 < c.alulevel,
+        (1 < c.alulevel) & (0 < c.dmsize),
+        0 < c.dmsize,
+        c.iopif == 1,
+        c.ioprmw == 1,
+        c.regsize < c.rmsize,
+        c.aluspr == 1,
+        false,
+    ];
+    let at = option as usize;
+    if at < 11 { options[at] } else { false }
 }
 
 // What a part stays below, by what it holds; past the last, 0.
