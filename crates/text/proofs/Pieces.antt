@@ -8,7 +8,7 @@ use native.Mathlib.Omega.{arith}
 use borrow.Author.Tests.{ltb-true, ltb-false, ne-eqb}
 use lib.Dec.{T, ltb, eqb}
 use lib.ListN.{length, getD, length-append, List·getD-eq-default}
-use Rattle.laws.specs.Choice.{pick}
+use Rattle.laws.specs.Choice.{pick, either}
 use Rattle.laws.specs.Test.{Test, same, less, if?, _and_, test, Holds, holds}
 use Rattle.laws.specs.Lists.{column, column-at}
 use Rattle.laws.specs.Table.{every, at-every, values, value-at}
@@ -20,7 +20,7 @@ use Rattle.text.specs.Strings.{none, updates, strings, string}
 use Rattle.text.specs.Styles.{Style, style, bare, styles, styleAt}
 use Rattle.text.specs.Digits.{spelled, digit, hex, unpacked}
 use Rattle.text.specs.Texts.{shown, operandText, numberWidth, conditionMark, flagMark, textOf}
-use Rattle.text.specs.Packed.{packedFrom, stringTable, sizeTable, endingOf, packedStyle, styleTable, Lent, pieceText, formText, pieceLent, lastMark, formIn, formLent}
+use Rattle.text.specs.Packed.{packedFrom, stringTable, sizeTable, endingOf, packedStyle, styleTable, Lent, Named, pieceText, formText, pieceLent, lastMark, formIn, formLent}
 use Rattle.text.specs.declared.forms.Piece.{Piece}
 use Rattle.text.specs.declared.forms.Form.{Form}
 use Rattle.text.proofs.Writing.{length-spelled}
@@ -123,6 +123,54 @@ back n = go (ltb n rowCount) refl
     go false e =
         let h = ltb-false n rowCount e in
         rw (past-rows n h, past-styles n h, past-table n h) (holds (packs-back (style none bare) noRow 0) none-back)
+
+-- and it names strings that there are
+
+abbrev names-below : ℕ → ℕ → Test
+names-below k p = less (p % 256) k and less (p / 0x1000 % 256) k and less (p / 0x10000000 % 256) k and less (p / 0x100000000000 % 256) k
+
+all-named : T (every rowCount (λ n. test (names-below 69 (packedStyle (styleAt n) (rowAt n)))))
+unfolding rows rowAt styles styleAt packedStyle numberWidth conditionMark endingOf pick
+all-named = tt
+
+named : (n : ℕ) → Holds (names-below 69 (getD styleTable n 0))
+named n = go (ltb n rowCount) refl
+  where
+    go : (b : Bool) → ltb n rowCount ≡ b → Holds (names-below 69 (getD styleTable n 0))
+    go true e =
+        let h = ltb-true n rowCount e in
+        rw (in-table n h)
+        (holds (names-below 69 (packedStyle (styleAt n) (rowAt n)))
+        (at-every rowCount (λ m. test (names-below 69 (packedStyle (styleAt m) (rowAt m)))) n all-named h))
+    go false e = rw (past-table n (ltb-false n rowCount e)) (holds (names-below 69 0) tt)
+
+strings-length : length stringTable ≡ 69
+unfolding stringTable strings
+strings-length = refl
+
+sizes-length : length sizeTable ≡ 69
+unfolding sizeTable strings
+sizes-length = refl
+
+named-below : (k n p : ℕ) → k ≡ 69 → p ≡ getD styleTable n 0 → Named k p
+named-below k n p e q =
+    let h = rw (← q) at (named n) in
+    rw e (record { name-below = h .0; first-below = h .1 .0; second-below = h .1 .1 .0; last-below = h .1 .1 .1 })
+
+pub style-named : (ss zs ts : List ℕ) (n p : ℕ) → Lent ss zs ts → p ≡ getD ts n 0 → Named (length ss) p × Named (length zs) p
+style-named ss zs ts n p l q =
+    let e : p ≡ getD styleTable n 0 = q ∙ ap (λ (t : List ℕ). getD t n 0) (l .styles-right) in (
+      named-below (length ss) n p (ap length (l .strings-right) ∙ strings-length) e,
+      named-below (length zs) n p (ap length (l .sizes-right) ∙ sizes-length) e,
+    )
+
+pub last-named : (k p flagged bit m : ℕ) → Named k p → m ≡ lastMark flagged (p / 0x100000000000 % 256) bit → m < k
+unfolding lastMark
+last-named k p flagged bit m h e =
+    rw e
+    (either (λ x. x < k) (eqb flagged 1 && not (eqb bit 0)) none (p / 0x100000000000 % 256)
+    (λ _. let z = h .name-below in omega (arith, z))
+    (λ _. h .last-below))
 
 -- what stands last
 

@@ -1,5 +1,5 @@
 -- The tables that code holds, and a text as code writes it: four pieces, each bytes of a table and then digits. proofs/Pieces.antt ties them to Texts.
-use Prim.Native.Nat.{ℕ, _+_, _*_, _/_, _%_}
+use Prim.Native.Nat.{ℕ, _+_, _*_, _/_, _%_, _<_}
 use mathlib.Core.Path.{_≡_}
 use mathlib.Core.Bool.{Bool, not, _&&_}
 use mathlib.Core.List.{List, [], _∷_, _++_}
@@ -56,6 +56,13 @@ pub record Lent (strings sizes styles : List ℕ) : Type 0 where
   pub strings-right : strings ≡ stringTable
   pub sizes-right : sizes ≡ sizeTable
   pub styles-right : styles ≡ styleTable
+
+-- the strings that packed style p names are below k
+pub record Named (k p : ℕ) : Type 0 where
+  pub name-below : p % 256 < k
+  pub first-below : p / 0x1000 % 256 < k
+  pub second-below : p / 0x10000000 % 256 < k
+  pub last-below : p / 0x100000000000 % 256 < k
 
 -- a piece's bytes and digits; a text's four pieces
 

@@ -1,10 +1,10 @@
 // A text in pieces, each bytes of a table and then hex digits: no case of an operand is left to the writer.
 ghost use mathlib.Core.Path.{_≡_};
-ghost use Prim.Native.Nat.{_≤_, _+_};
+ghost use Prim.Native.Nat.{_<_, _≤_, _+_};
 ghost use lib.ListN.{length, getD};
 ghost use Rattle.laws.specs.Choice.{pick as choice};
 ghost use Rattle.text.specs.Pages.{Wrote};
-ghost use Rattle.text.specs.Packed.{pieceText, formText, pieceLent, lastMark, formIn, formLent};
+ghost use Rattle.text.specs.Packed.{Lent, Named, pieceText, formText, pieceLent, lastMark, formIn, formLent};
 ghost use Rattle.text.specs.Texts.{shown};
 use crate::writers::put_hex;
 use crate::writers::put_packed;
@@ -63,26 +63,21 @@ pub fn put_form(page: &mut [u8], at: usize, f: Form) -> usize
     put_piece(page, k, d)
 }
 
-// Readers of lent tables, total: past the end no bytes, no style.
-
-fn string_at(strings: &[u64], k: usize) -> u64
-    ensures { λ r. ⌜ r ≡ getD (now (strings .entry)) k 0 ⌝ }
+// A style by a lent table; past its end none.
+fn style_at(styles: &[u64], n: usize) -> u64
+    ensures { λ r. ⌜ r ≡ getD (now (styles .entry)) n 0 ⌝ }
 {
-    if k < strings.len() { strings[k] } else { 0 }
+    if n < styles.len() { styles[n] } else { 0 }
 }
 
-fn size_at(sizes: &[u8], k: usize) -> u8
-    ensures { λ r. ⌜ r ≡ getD (now (sizes .entry)) k 0 ⌝ }
-{
-    if k < sizes.len() { sizes[k] } else { 0 }
-}
-
+// String k by the lent tables, and w digits of v.
 fn piece_lent(strings: &[u64], sizes: &[u8], k: usize, w: u8, v: u64) -> Piece
+    requires { ⌜ (k < length (now strings)) × (k < length (now sizes)) ⌝ }
     ensures { λ r. ⌜ r ≡ pieceLent (now (strings .entry)) (now (sizes .entry)) k w v ⌝ }
 {
     Piece {
-        bytes: string_at(strings, k),
-        size: size_at(sizes, k),
+        bytes: strings[k],
+        size: sizes[k],
         width: w,
         value: v,
     }
@@ -118,6 +113,7 @@ fn last_mark(flagged: u64, mark: usize, bit: u32) -> usize
 
 // The pieces of an instruction's text, where p is its row's packed style.
 fn form_in(strings: &[u64], sizes: &[u8], p: u64, i: Instruction) -> Form
+    requires { ⌜ Named (length (now strings)) p × Named (length (now sizes)) p ⌝ }
     ensures { λ r. ⌜ r ≡ formIn (now (strings .entry)) (now (sizes .entry)) p i ⌝ }
 {
     let name = piece_lent(
@@ -156,9 +152,10 @@ fn form_in(strings: &[u64], sizes: &[u8], p: u64, i: Instruction) -> Form
 }
 
 pub fn form_of(strings: &[u64], sizes: &[u8], styles: &[u64], i: Instruction) -> Form
+    requires { ⌜ Lent (now strings) (now sizes) (now styles) ⌝ }
     ensures { λ r. ⌜ r ≡ formLent (now (strings .entry)) (now (sizes .entry)) (now (styles .entry)) i ⌝ }
 {
     let n = i.row as usize;
-    let p = string_at(styles, n);
+    let p = style_at(styles, n);
     form_in(strings, sizes, p, i)
 }
