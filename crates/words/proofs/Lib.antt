@@ -2,6 +2,7 @@ pub mod Digits
 pub mod Keys
 pub mod Quick
 pub mod SingleWord
+pub mod Sizes
 pub mod RoundTrip
 pub mod ClassTable
 pub mod Lent

@@ -1,7 +1,7 @@
 // Which configurations are lawful: refusal 1.
 ghost use mathlib.Core.Path.{_≡_};
-ghost use Rattle.laws.specs.Test.{test};
-ghost use Rattle.words.specs.Configs.{lawfulImage, lawfulRegisters, lawfulBanks, lawfulMemory, lawfulOptions, lawfulRest, lawful};
+ghost use Rattle.laws.specs.Test.{test, member};
+ghost use Rattle.words.specs.Configs.{dataSizes, lawfulImage, lawfulRegisters, lawfulBanks, lawfulMemory, lawfulOptions, lawfulRest, lawful};
 use crate::Config;
 
 fn lawful_image(width: u32, size: u32) -> bool
@@ -29,29 +29,19 @@ fn lawful_banks(width: u32, size: u32, rm: u32) -> bool
                             | ((rm == 128) | ((rm == 256) | ((rm == 512) | (rm == 1024)))))))))
 }
 
+// Whether d is 0 or a power of two from 2 to 32,768: such a number has no bit in common with the number before it. 2^32 is added, so that nothing is taken
+// from 0.
+fn data_size(d: u32) -> bool
+    ensures { λ r. ⌜ r ≡ member d dataSizes ⌝ }
+{
+    let x = d as u64;
+    (d <= 32768) & ((d != 1) & ((x & (x + 4294967295)) == 0))
+}
+
 fn lawful_memory(stack: u32, dm: u32, pipe: u32) -> bool
     ensures { λ r. ⌜ r ≡ test (lawfulMemory stack dm pipe) ⌝ }
 {
-    (0 < stack)
-        & ((stack <= 64)
-            & (((dm == 0)
-                | ((dm == 2)
-                    | ((dm == 4)
-                        | ((dm == 8)
-                            | ((dm == 16)
-                                | ((dm == 32)
-                                    | ((dm == 64)
-                                        | ((dm == 128)
-                                            | ((dm == 256)
-                                                | ((dm == 512)
-                                                    | ((dm == 1024)
-                                                        | ((dm == 2048)
-                                                            | ((dm == 4096)
-                                                                | ((dm == 8192)
-                                                                    | ((dm == 16384)
-                                                                        | (dm
-                                                                            == 32768))))))))))))))))
-                & (pipe <= 2)))
+    (0 < stack) & ((stack <= 64) & (data_size(dm) & (pipe <= 2)))
 }
 
 fn lawful_options(width: u32, level: u32, mult: u32, spr: u32, ports: u32, rmw: u32) -> bool
