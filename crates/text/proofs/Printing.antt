@@ -119,13 +119,23 @@ small-number NoRow n e = omega arith
 small-number Unavailable n e = omega arith
 small-number OutOfRange n e = omega arith
 
-pub refused-word : (c : Config) (w : ℕ) (x : Refusal) (number : ℕ) (t : List ℕ) → readingOf (Refused x) ≡ readLawful c w → number ≡ refusalNumber x →
-    t ≡ refusedText number → t ≡ wordText c w
-unfolding readingOf refusalNumber wordText shownText pick
-refused-word c w Unlawful number t e n h = rw (← e, h, n)
-refused-word c w NoRow number t e n h = rw (← e, h, n)
-refused-word c w Unavailable number t e n h = rw (← e, h, n)
-refused-word c w OutOfRange number t e n h = rw (← e, h, n)
+-- what reading a word answers
+
+pub refused-number : (c : Config) (w : ℕ) (x : Refusal) (n : ℕ) → readingOf (Refused x) ≡ readLawful c w → n ≡ refusalNumber x →
+    (n ≡ readLawful c w .number) × (n < 10)
+unfolding readingOf
+refused-number c w x n e q = (q ∙ ap (λ (r : Read). r .number) e, small-number x n q)
+
+pub decoded-number : (c : Config) (w : ℕ) (i : Instruction) → readingOf (Decoded i) ≡ readLawful c w → (0 ≡ readLawful c w .number) × (0 < 10)
+unfolding readingOf
+decoded-number c w i e = (ap (λ (r : Read). r .number) e, omega arith)
+
+-- and what stands for it in a listing
+
+pub numbered-word : (c : Config) (w number : ℕ) (t : List ℕ) → number ≡ readLawful c w .number → (number ≡ 0 → ⊥) → t ≡ refusedText number →
+    t ≡ wordText c w
+unfolding wordText shownText pick
+numbered-word c w number t e z h = rw (← e, ne-eqb number 0 z) h
 
 pub decoded-word : (c : Config) (w : ℕ) (i : Instruction) (t : List ℕ) → readingOf (Decoded i) ≡ readLawful c w → t ≡ shownText 0 (textOf c i) →
     t ≡ wordText c w

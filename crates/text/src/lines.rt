@@ -6,7 +6,8 @@ ghost use lib.ListN.{length};
 ghost use Rattle.laws.specs.Test.{Holds};
 ghost use Rattle.words.specs.Configs.{lawful};
 ghost use Rattle.words.specs.Lookup.{Limits};
-ghost use Rattle.words.specs.Packed.{Tables};
+ghost use Rattle.words.specs.Packed.{Tables, numberLent};
+ghost use Rattle.words.specs.Words.{readLawful};
 ghost use Rattle.text.specs.Digits.{hex, unpacked};
 ghost use Rattle.text.specs.Lines.{lineOf};
 ghost use Rattle.text.specs.Packed.{formText, Lent};
@@ -75,28 +76,40 @@ fn shown_form(c: Config, strings: &[u64], sizes: &[u8], styles: &[u64], i: Instr
     f
 }
 
-// What stands in a listing for word w, read by the lent tables with each refusal tested.
-fn exact_form(
+// What reading word w answers, 0, 5, 6 or 7, each refusal tested.
+fn exact_number(c: Config, classes: &[u8], bases: &[u32], packs: &[u64], w: u32) -> u32
+    requires { ⌜ Tables (now classes) (now bases) (now packs) ⌝ }
+    ensures { λ r. ⌜ (r ≡ readLawful c w .number) × (r < 10) ⌝ }
+{
+    let r = words::read_word_lent(classes, bases, packs, c, w);
+    match r {
+        Reading::Refused(x) => x.number(),
+        Reading::Decoded(_i) => 0,
+    }
+}
+
+// What reading word w, of row n, answers: 0, as a rule, by its limits alone.
+fn word_number(
     c: Config,
     classes: &[u8],
     bases: &[u32],
     packs: &[u64],
-    strings: &[u64],
-    sizes: &[u8],
-    styles: &[u64],
+    entries: &[u32],
+    uppers: &[u64],
+    lowers: &[u64],
+    n: u32,
     w: u32,
-) -> Form
-    requires { ⌜ Tables (now classes) (now bases) (now packs) × Lent (now strings) (now sizes) (now styles) ⌝ }
-    ensures { λ r. ⌜ formText r ≡ wordText c w ⌝ }
+) -> u32
+    requires { ⌜ Tables (now classes) (now bases) (now packs) × Limits c (now entries) (now uppers) (now lowers) × Holds (lawful c) × (n ≡ numberLent (now classes) w) ⌝ }
+    ensures { λ r. ⌜ (r ≡ readLawful c w .number) × (r < 10) ⌝ }
 {
-    let r = words::read_word_lent(classes, bases, packs, c, w);
-    match r {
-        Reading::Refused(x) => refused_form(x.number()),
-        Reading::Decoded(i) => shown_form(c, strings, sizes, styles, i),
+    if words::below_limits(entries, uppers, lowers, n, w) {
+        return 0;
     }
+    exact_number(c, classes, bases, packs, w)
 }
 
-// What stands in a listing for word w, read by the lent tables: as a rule by its limits alone.
+// What stands in a listing for word w, read by the lent tables.
 pub fn word_form(
     c: Config,
     classes: &[u8],
@@ -114,11 +127,12 @@ pub fn word_form(
     ensures { λ r. ⌜ formText r ≡ wordText c w ⌝ }
 {
     let n = words::row_lent(classes, w);
-    if words::below_limits(entries, uppers, lowers, n, w) {
-        let i = words::parts_lent(bases, packs, n, w);
-        return shown_form(c, strings, sizes, styles, i);
+    let number = word_number(c, classes, bases, packs, entries, uppers, lowers, n, w);
+    if number != 0 {
+        return refused_form(number);
     }
-    exact_form(c, classes, bases, packs, strings, sizes, styles, w)
+    let i = words::parts_lent(bases, packs, n, w);
+    shown_form(c, strings, sizes, styles, i)
 }
 
 pub fn line_len(f: Form) -> usize

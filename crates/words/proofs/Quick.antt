@@ -8,7 +8,7 @@ use mathlib.Core.List.{List}
 use native.Mathlib.Omega.{arith}
 use lib.Dec.{ltb, ltb→lt}
 use lib.ListN.{getD}
-use Rattle.laws.specs.Choice.{true-is}
+use Rattle.laws.specs.Choice.{pick, true-is}
 use Rattle.laws.specs.Table.{value-at}
 use Rattle.laws.specs.Test.{Holds, and-left, and-right}
 use Rattle.words.specs.declared.Config.{Config}
@@ -18,7 +18,7 @@ use Rattle.words.specs.Answers.{readingOf}
 use Rattle.words.specs.Configs.{lawful}
 use Rattle.words.specs.Rows.{rowAt}
 use Rattle.words.specs.Classes.{none, classOf, rowOf}
-use Rattle.words.specs.Words.{fieldsIn, spread, partsBy, partsOf, readLawful}
+use Rattle.words.specs.Words.{fieldsIn, spread, answered, partsBy, partsOf, readBy, readLawful}
 use Rattle.words.specs.Packed.{Tables, rowLent, numberLent, partsLent}
 use Rattle.words.specs.Claims.{understood}
 use Rattle.words.specs.Lookup.{entryAt, entryTable, entryOf, checkAt, upperLimit, lowerLimit, uppers, lowers, Quick, belowLent, Limits}
@@ -57,6 +57,10 @@ module _ (c : Config) (w n : ℕ) (small : w < 0x100000000) (row : n ≡ rowOf (
       let l = ltb (w % 65536) (lowerLimit c (checkAt (entryOf w % 64))) in
       record { upper = ltb→lt _ _ (and-left u l v); lower = ltb→lt _ _ (and-right u l v) }
 
+read-zero : (c : Config) (w : ℕ) → readLawful c w .number ≡ 0 → readLawful c w ≡ understood (partsOf w)
+unfolding readLawful readBy partsOf answered pick
+read-zero c w z = rw z
+
 module _ (cs bs ps es us ls : List ℕ) (c : Config) (w n : ℕ) (t : Tables cs bs ps) (l : Limits c es us ls) (small : w < 0x100000000)
     (row : n ≡ numberLent cs w) where
   row-here : n ≡ rowOf (classOf (w / 0x800000)) (w % 0x800000)
@@ -72,3 +76,8 @@ module _ (cs bs ps es us ls : List ℕ) (c : Config) (w n : ℕ) (t : Tables cs 
   quick-lent h b i e =
       let q = quick-here c w n small row-here (rw (l .entries-right, l .uppers-right, l .lowers-right) at b) in
       ap understood (e ∙ parts-here) ∙ sym (quick c w h small q)
+
+  -- and so is every word that can be read
+  pub read-parts : readLawful c w .number ≡ 0 → (i : Instruction) → i ≡ partsLent bs ps n w → readingOf (Decoded i) ≡ readLawful c w
+  unfolding readingOf
+  read-parts z i e = ap understood (e ∙ parts-here) ∙ sym (read-zero c w z)
