@@ -14,6 +14,7 @@ use Rattle.laws.specs.Test.{test}
 use Rattle.laws.specs.First.{first-failing, first-append}
 use Rattle.words.specs.Configs.{lawful}
 use Rattle.state.specs.declared.Change.{Change}
+use Rattle.state.specs.declared.Core.{Core}
 use Rattle.state.specs.State.{Env, State, env, state}
 use Rattle.state.specs.Ranges.{lengths, inRanges, guards, budgetFits}
 use Rattle.state.specs.Stops.{factsAt}
@@ -24,7 +25,9 @@ use Rattle.state.proofs.StaysValid.{stays-good}
 use Rattle.state.proofs.Running.{TwoOrThree, step-cycles}
 use Rattle.machine.specs.Act.{changeAt}
 use Rattle.machine.specs.Turns.{End, endOf}
+use Rattle.machine.specs.Stretches.{plus, SameLengths, Reached, Came}
 use Rattle.machine.proofs.Deciding.{carried-out}
+use Rattle.machine.proofs.Looking.{clash}
 
 -- the change is committed
 pub committed : (e : Env) (s : State) (x : Change) (k : ℕ) (t : State) → x ≡ changeAt e s → x .stop ≡ 0 → k ≡ cyclesOf (e .config) (factsAt e s) →
@@ -40,35 +43,6 @@ pub guarded : (e : Env) (s : State) (a b d : Bool) → a ≡ test (lawful (e .co
 unfolding guards
 guarded e s a b d p q r = rw (p, q, r)
 
--- n steps of c cycles in all, and then what is left
-abbrev plus : ℕ → ℕ → End → End
-plus n c x = record { number = x .number; steps = n + x .steps; cycles = c + x .cycles; last = x .last }
-
-pub record SameLengths (s t : State) : Type 0 where
-  pub stack : length (t .stack) ≡ length (s .stack)
-  pub registers : length (t .registers) ≡ length (s .registers)
-  pub memory : length (t .memory) ≡ length (s .memory)
-  pub addresses : length (t .addresses) ≡ length (s .addresses)
-  pub values : length (t .values) ≡ length (s .values)
-
--- the loop's invariant, at a run of `budget` from s₀ that has reached s with `left` steps to go
-pub record Going (e : Env) (s₀ s : State) (budget left cycles : ℕ) : Type 0 where
-  pub good : Good e s
-  pub within : left ≤ budget
-  pub bound : cycles ≤ 3 * (budget - left)
-  pub lengths : SameLengths s₀ s
-  pub whole : plus (budget - left) cycles (endOf (runOf left e s)) ≡ endOf (runOf budget e s₀)
-
-pub going-start : (e : Env) (s : State) (budget : ℕ) → Good e s → Going e s s budget budget 0
-going-start e s budget g =
-    record {
-      good = g;
-      within = omega arith;
-      bound = omega arith;
-      lengths = record { stack = refl; registers = refl; memory = refl; addresses = refl; values = refl };
-      whole = simp (sub-self, zero-add);
-    }
-
 run-more : (e : Env) (s : State) (k : ℕ) → advanceOf e s .number ≡ 0 →
     runOf (suc k) e s ≡ after s (advanceOf e s .cycles) (runOf k e (advanceOf e s .state))
 unfolding runOf pick
@@ -81,9 +55,6 @@ run-stop e s k h = rw (ne-eqb _ _ h)
 plus-plus : (n c m d : ℕ) (x : End) → plus n c (plus m d x) ≡ plus (n + m) (c + d) x
 plus-plus n c m d x = simp (← add-assoc)
 
-suc-of : (n : ℕ) → 0 < n → n ≡ suc (n - 1)
-suc-of n h = omega arith
-
 -- a refused step leaves the state
 kept : (e : Env) (s : State) → (advanceOf e s .number ≡ 0 → ⊥) → advanceOf e s .state ≡ s
 unfolding advanceOf pick
@@ -95,52 +66,157 @@ kept e s h = go (eqb (Rattle.state.specs.Step.number e s) 0) refl h
     go true q n = absurd (n refl)
     go false q n = refl
 
-module _ (e : Env) (s₀ s : State) (budget left cycles : ℕ) (g : Going e s₀ s budget left cycles) (h : 0 < left) (o : Outcome) (q : o ≡ advanceOf e s) where
-  passed : o .number ≡ 0 → advanceOf e s .number ≡ 0
-  passed z = ap (λ (t : Outcome). t .number) (sym q) ∙ z
+pub reached-start : (e : Env) (s : State) → Good e s → Reached e s s 0 0
+reached-start e s g =
+    record {
+      good = g;
+      bound = omega arith;
+      lengths = record { stack = refl; registers = refl; memory = refl; addresses = refl; values = refl };
+      whole = λ n. simp zero-add;
+    }
 
-  three : o .number ≡ 0 → o .cycles ≤ 3
-  three z = rw q (step-cycles e s (passed z) .most)
+-- a stop is that of the state it is told of, which it leaves
+stop-of : (e : Env) (s : State) (m : ℕ) → (advanceOf e s .number ≡ 0 → ⊥) →
+    endOf (runOf (suc m) e s) ≡ endOf (ended (advanceOf e s .number) s)
+stop-of e s m h = ap (λ (r : Run). endOf r) (run-stop e s m h)
 
-  -- a run's cycles stay below three times its budget
-  pub going-cycles : o .number ≡ 0 → cycles + o .cycles ≤ 3 * budget
-  going-cycles z = omega (arith, g .within, g .bound, three z)
+join-lengths : {s t u : State} → SameLengths s t → SameLengths t u → SameLengths s u
+join-lengths p q =
+    record {
+      stack = q .stack ∙ p .stack;
+      registers = q .registers ∙ p .registers;
+      memory = q .memory ∙ p .memory;
+      addresses = q .addresses ∙ p .addresses;
+      values = q .values ∙ p .values;
+    }
 
-  pub going-more : o .number ≡ 0 → SameLengths s (o .state) → Going e s₀ (o .state) budget (left - 1) (cycles + o .cycles)
-  going-more z l =
-      let num : budget - (left - 1) ≡ (budget - left) + 1 = omega (arith, g .within) in
+module _ (e : Env) (s₀ s : State) (steps cycles : ℕ) (g : Reached e s₀ s steps cycles) where
+  -- a step more
+  pub reached-more : (o : Outcome) → o ≡ advanceOf e s → o .number ≡ 0 → SameLengths s (o .state) →
+      Reached e s₀ (o .state) (steps + 1) (cycles + o .cycles)
+  reached-more o q z l =
+      let pass : advanceOf e s .number ≡ 0 = ap (λ (t : Outcome). t .number) (sym q) ∙ z in
+      let three : o .cycles ≤ 3 = rw q (step-cycles e s pass .most) in
       record {
         good = rw q (stays-good e s (g .good));
-        within = omega (arith, g .within);
-        bound = omega (arith, g .within, g .bound, three z);
-        lengths =
-            record {
-              stack = l .stack ∙ g .lengths .stack;
-              registers = l .registers ∙ g .lengths .registers;
-              memory = l .memory ∙ g .lengths .memory;
-              addresses = l .addresses ∙ g .lengths .addresses;
-              values = l .values ∙ g .lengths .values;
-            };
-        whole =
-            rw (q, num)
-            (sym (plus-plus (budget - left) cycles 1 (advanceOf e s .cycles) (endOf (runOf (left - 1) e (advanceOf e s .state)))) ∙
-            (ap (λ (r : Run). plus (budget - left) cycles (endOf r)) (sym (run-more e s (left - 1) (passed z))) ∙
-            (ap (λ (n : ℕ). plus (budget - left) cycles (endOf (runOf n e s))) (sym (suc-of left h)) ∙ g .whole)));
+        bound = omega (arith, g .bound, three);
+        lengths = join-lengths (g .lengths) l;
+        whole = λ n.
+            let num : steps + suc n ≡ steps + 1 + n = omega arith in
+            rw q
+            (sym (plus-plus steps cycles 1 (advanceOf e s .cycles) (endOf (runOf n e (advanceOf e s .state)))) ∙
+            (ap (λ (r : Run). plus steps cycles (endOf r)) (sym (run-more e s n pass)) ∙
+            (g .whole (suc n) ∙ ap (λ (k : ℕ). endOf (runOf k e s₀)) num)));
       }
 
-  pub going-stop : (o .number ≡ 0 → ⊥) →
-      _≡_ {A = End} (record { number = o .number; steps = budget - left; cycles = cycles; last = o .state }) (endOf (runOf budget e s₀))
-  going-stop n =
-      let m : advanceOf e s .number ≡ 0 → ⊥ = λ z. n (ap (λ (t : Outcome). t .number) q ∙ z) in
-      let halt : runOf left e s ≡ ended (advanceOf e s .number) s = ap (λ (k : ℕ). runOf k e s) (suc-of left h) ∙ run-stop e s (left - 1) m in
-      rw (q, kept e s m) (simp add-zero at (rw halt at (g .whole)))
+  pub more-cycles : (o : Outcome) → o ≡ advanceOf e s → o .number ≡ 0 → cycles + o .cycles ≤ 3 * (steps + 1)
+  more-cycles o q z =
+      let three : o .cycles ≤ 3 = rw q (step-cycles e s (ap (λ (t : Outcome). t .number) (sym q) ∙ z) .most) in
+      omega (arith, g .bound, three)
 
-pub going-done : (e : Env) (s₀ s : State) (budget left cycles : ℕ) → Going e s₀ s budget left cycles → left ≤ 0 →
-    _≡_ {A = End} (record { number = 0; steps = budget; cycles = cycles; last = s }) (endOf (runOf budget e s₀))
-unfolding runOf
-going-done e s₀ s budget left cycles g h =
-    let z : left ≡ 0 = omega arith in
-    simp (sub-zero, add-zero) at (rw z at (g .whole))
+  -- the next step is stopped
+  pub reached-stop : (budget n : ℕ) → advanceOf e s .number ≡ n → (n ≡ 0 → ⊥) → steps < budget →
+      _≡_ {A = End} (record { number = n; steps = steps; cycles = cycles; last = s }) (endOf (runOf budget e s₀))
+  reached-stop budget n q z h =
+      let m = budget - steps - 1 in
+      let num : steps + suc m ≡ budget = omega arith in
+      let halt : endOf (runOf (suc m) e s) ≡ endOf (ended n s) = stop-of e s m (λ u. z (sym q ∙ u)) ∙ ap (λ (k : ℕ). endOf (ended k s)) q in
+      (simp add-zero at (sym (ap (plus steps cycles) halt))) ∙ (g .whole (suc m) ∙ ap (λ (k : ℕ). endOf (runOf k e s₀)) num)
+
+  -- the budget is spent
+  pub reached-done : (budget : ℕ) → steps ≡ budget → _≡_ {A = End} (record { number = 0; steps = steps; cycles = cycles; last = s }) (endOf (runOf budget e s₀))
+  unfolding runOf
+  reached-done budget q = simp add-zero at (g .whole 0) ∙ ap (λ (k : ℕ). endOf (runOf k e s₀)) q
+
+  -- further steps
+  pub reached-join : (t : State) (k c : ℕ) → Reached e s t k c → Reached e s₀ t (steps + k) (cycles + c)
+  reached-join t k c h =
+      record {
+        good = h .good;
+        bound = omega (arith, g .bound, h .bound);
+        lengths = join-lengths (g .lengths) (h .lengths);
+        whole = λ n.
+            let num : steps + (k + n) ≡ steps + k + n = omega arith in
+            sym (plus-plus steps cycles k c (endOf (runOf n e t))) ∙
+            (ap (plus steps cycles) (h .whole n) ∙ (g .whole (k + n) ∙ ap (λ (m : ℕ). endOf (runOf m e s₀)) num));
+      }
+
+  -- a stopped step, told of the state that it left
+  pub stopped-at : (o : Outcome) → o ≡ advanceOf e s → (o .number ≡ 0 → ⊥) → Reached e s₀ (o .state) steps cycles × (advanceOf e (o .state) .number ≡ o .number)
+  stopped-at o q z =
+      let num : advanceOf e s .number ≡ o .number = ap (λ (t : Outcome). t .number) (sym q) in
+      let same : o .state ≡ s = ap (λ (t : Outcome). t .state) q ∙ kept e s (λ u. z (sym num ∙ u)) in
+      (rw same g, rw same num)
+
+-- How far a stretch came
+
+module _ (trusted : Bool) (budget : ℕ) (e : Env) (s₀ s : State) (steps cycles : ℕ) (g : Reached e s₀ s steps cycles) (core : Core) where
+  -- before a word that is not settled
+  pub came-paused : (t : State) → t ≡ s → steps < budget → (trusted ≡ true → false ≡ true) →
+      Came trusted budget e s₀ t (record { settled = false; stop = 0; steps = steps; cycles = cycles; core = core })
+  came-paused t q h n =
+      record {
+        few = omega arith;
+        reached = rw q g;
+        stopped = λ z. absurd (z refl);
+        finished = λ _ z. clash false z refl;
+        paused = λ _. h;
+        trusting = n;
+      }
+
+  -- before a step that is stopped
+  pub came-stopped : (o : Outcome) → o ≡ advanceOf e s → (o .number ≡ 0 → ⊥) → steps < budget →
+      Came trusted budget e s₀ (o .state) (record { settled = true; stop = o .number; steps = steps; cycles = cycles; core = core })
+  came-stopped o q z h =
+      let x = stopped-at e s₀ s steps cycles g o q z in
+      record {
+        few = omega arith;
+        reached = x .0;
+        stopped = λ _. (h, x .1);
+        finished = λ u _. absurd (z u);
+        paused = λ u. clash true refl u;
+        trusting = λ _. refl;
+      }
+
+  -- to the end
+  pub came-done : steps ≡ budget →
+      Came trusted budget e s₀ s (record { settled = true; stop = 0; steps = steps; cycles = cycles; core = core })
+  came-done q =
+      record {
+        few = omega arith;
+        reached = g;
+        stopped = λ z. absurd (z refl);
+        finished = λ _ _. q;
+        paused = λ u. clash true refl u;
+        trusting = λ _. refl;
+      }
+
+-- one that is left open is not trusted
+pub open-untrusted : (trusted settled : Bool) → (trusted ≡ true → settled ≡ true) → settled ≡ false → trusted ≡ false
+open-untrusted true settled h q = clash settled (h refl) q
+open-untrusted false settled h q = refl
+
+-- the share of a stretch
+pub share-most : (b : Bool) (n r : ℕ) → r ≡ pick b 1 n → 0 < n → r ≤ n
+unfolding pick
+share-most true n r q h = omega arith
+share-most false n r q h = omega arith
+
+pub share-one : (b : Bool) (n r : ℕ) → r ≡ pick b 1 n → b ≡ true → r ≡ 1
+unfolding pick
+share-one true n r q h = q
+share-one false n r q h = clash false h refl
+
+-- a stretch that came to its end leaves less to do
+pub share-less : (b : Bool) (n r : ℕ) → r ≡ pick b 1 n → 0 < n → 2 * (n - r) + pick false 0 1 < 2 * n + pick b 0 1
+unfolding pick
+share-less true n r q h = omega arith
+share-less false n r q h = omega arith
+
+pub share-open : (b : Bool) (n r k : ℕ) → r ≡ pick b 1 n → b ≡ false → k ≤ r → 2 * (n - k) + pick true 0 1 < 2 * n + pick b 0 1
+unfolding pick
+share-open true n r k q h l = clash true refl h
+share-open false n r k q h l = omega arith
 
 -- the public calls, by what 1, 2, 3 and 16 say
 

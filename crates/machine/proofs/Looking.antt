@@ -1,16 +1,16 @@
 -- What advance.rt looks up of a word, its entry, its verdict and its waits, is what the definitions say; and so is what it decides by them.
 -- Assumes nothing.
-use Prim.Native.Nat.{ℕ, zero, suc, _+_, _/_, _%_, _≤_, _<_}
+use Prim.Native.Nat.{ℕ, _+_, _/_, _%_, _^_, _≤_, _<_}
 use mathlib.Core.Path.{_≡_, refl, sym, ap, _∙_}
 use mathlib.Core.Bool.{Bool, true, false, not, _&&_, _||_}
 use mathlib.Core.List.{List, [], _∷_, _++_}
 use native.Mathlib.Omega.{arith}
-use borrow.Author.Tests.{lt-ltb, ne-eqb, eqb-true}
-use lib.Dec.{eqb, ltb, ltb→lt}
-use lib.ListN.{length, getD}
+use borrow.Author.Tests.{lt-ltb, ltb-true, ltb-false, ne-eqb, eqb-true}
+use lib.Bits.{bitAnd}
+use lib.Dec.{eqb, ltb}
+use lib.ListN.{getD}
 use Rattle.laws.specs.Choice.{pick, either, true-is}
-use Rattle.laws.specs.Table.{values, value-at}
-use Rattle.laws.specs.Test.{Test, test, imp, Holds, and-left, and-right}
+use Rattle.laws.specs.Test.{Test, test, imp, Holds}
 use Rattle.laws.specs.First.{first-failing, first-append}
 use Rattle.words.specs.declared.Config.{Config}
 use Rattle.words.specs.declared.Instruction.{Instruction}
@@ -23,12 +23,12 @@ use Rattle.words.specs.Words.{refusals567, answered, partsOf, readBy, readLawfu
 use Rattle.words.specs.Answers.{refusalNumber, readingOf}
 use Rattle.words.specs.Claims.{understood}
 use Rattle.words.specs.Facts.{factsOf, factsIn}
-use Rattle.words.specs.Classes.{classOf, rowOf}
-use Rattle.words.specs.Packed.{classTable}
 use Rattle.words.specs.Actions.{input, load}
-use Rattle.words.specs.Lookup.{entryAt, entryTable, entryOf, entryFacts, checkAt, upperLimit, lowerLimit, waitOf, uppers, lowers, waits, Quick, Agrees}
+use Rattle.words.specs.Lookup.{entryOf, entryFacts, checkAt, upperLimit, lowerLimit, waitOf, Quick, Agrees}
+use Rattle.words.specs.Finding.{keyAt, fieldTable, maskOf}
 use Rattle.words.proofs.RoundTrip.{decoded}
-use Rattle.words.proofs.Lookup.{entry-facts, waited, read-row, quick, agrees, row-few}
+use Rattle.words.proofs.Lookup.{entry-facts, waited, read-row, quick, agrees}
+use Rattle.words.proofs.Found.{key-field, field-at, mask-quick}
 use Rattle.arith.specs.Width.{one}
 use Rattle.state.specs.declared.Core.{Core}
 use Rattle.state.specs.declared.Change.{Change}
@@ -36,53 +36,17 @@ use Rattle.state.specs.State.{Env, State}
 use Rattle.state.specs.Cores.{stopped}
 use Rattle.state.specs.Operands.{viewOf}
 use Rattle.state.specs.Stops.{stop8, stops9to15, partsAt, factsAt, stops}
-use Rattle.state.specs.Step.{planAt, cyclesOf}
-use Rattle.machine.specs.Act.{act, changeAt, verdictOf, Acts}
-use Rattle.machine.proofs.Deciding.{unless-first, not-zero}
+use Rattle.state.specs.Step.{planAt, cyclesOf, Outcome, advanceOf}
+use Rattle.machine.specs.Act.{act, changeAt, verdictOf, Acts, Ready}
+use Rattle.machine.proofs.Deciding.{unless-first, not-zero, outside, refused-by}
+
+-- an answer is not both
+pub clash : {A : Type 0} (b : Bool) → b ≡ true → b ≡ false → A
+clash b p q = absurd (rw q at (true-is b p))
 
 -- a stop is no pass
 pub halted : {A : Type 0} (x : Change) (m : Core) (n : ℕ) → x ≡ stopped m n → (n ≡ 0 → ⊥) → x .stop ≡ 0 → A
 halted x m n p h z = absurd (h (sym (ap (λ (y : Change). y .stop) p) ∙ z))
-
--- the tables' lengths
-
-length-values : (f : ℕ → ℕ) (i n : ℕ) → length (values f i n) ≡ n
-length-values f i zero = refl
-length-values f i (suc n) = ap suc (length-values f (suc i) n)
-
-pub classes-length : length classTable ≡ 512
-unfolding classTable
-classes-length = length-values classOf 0 512
-
-pub entries-length : length entryTable ≡ 256
-unfolding entryTable
-entries-length = length-values entryAt 0 256
-
-pub uppers-length : (c : Config) → length (uppers c) ≡ 64
-unfolding uppers
-uppers-length c = length-values (λ t. upperLimit c (checkAt t)) 0 64
-
-pub lowers-length : (c : Config) → length (lowers c) ≡ 64
-unfolding lowers
-lowers-length c = length-values (λ t. lowerLimit c (checkAt t)) 0 64
-
-pub waits-length : (c : Config) → length (waits c) ≡ 64
-unfolding waits
-waits-length c = length-values (λ t. waitOf c (checkAt t)) 0 64
-
--- and what stands in them
-
-pub upper-at : (c : Config) (l : List ℕ) (t : ℕ) → l ≡ uppers c → t < 64 → getD l t 0 ≡ upperLimit c (checkAt t)
-unfolding uppers
-upper-at c l t q h = rw q (value-at (λ k. upperLimit c (checkAt k)) 64 t 0 h)
-
-pub lower-at : (c : Config) (l : List ℕ) (t : ℕ) → l ≡ lowers c → t < 64 → getD l t 0 ≡ lowerLimit c (checkAt t)
-unfolding lowers
-lower-at c l t q h = rw q (value-at (λ k. lowerLimit c (checkAt k)) 64 t 0 h)
-
-pub wait-at : (c : Config) (l : List ℕ) (t : ℕ) → l ≡ waits c → t < 64 → getD l t 0 ≡ waitOf c (checkAt t)
-unfolding waits
-wait-at c l t q h = rw q (value-at (λ k. waitOf c (checkAt k)) 64 t 0 h)
 
 pub wait-small : (c : Config) (t : ℕ) → waitOf c (checkAt t) ≤ 1
 unfolding waitOf
@@ -91,18 +55,14 @@ wait-small c t =
     either (λ x. x ≤ 1) (eqb (k .wait) input) 1 _ (λ u. omega arith)
     (λ u. either (λ x. x ≤ 1) (eqb (k .wait) load && not (eqb (c .dmpipe) 0)) 1 0 (λ v. omega arith) (λ v. omega arith))
 
-pub class-in : (l : List ℕ) (k : ℕ) → l ≡ classTable → k < 512 → getD l k 0 ≡ classOf k
-unfolding classTable
-class-in l k q h = rw q (value-at classOf 512 k 0 h)
-
-pub entry-in : (cs es : List ℕ) (w c r : ℕ) → cs ≡ classTable → es ≡ entryTable → w < 0x100000000 → c ≡ getD cs (w / 0x800000) 0 →
-    r ≡ rowOf c (w % 0x800000) → (r < 256) × (getD es r 0 ≡ entryOf w)
-unfolding entryTable entryOf
-entry-in cs es w c r p q h a b =
-    let k : w / 0x800000 < 512 = omega arith in
-    let e : r ≡ rowOf (classOf (w / 0x800000)) (w % 0x800000) = b ∙ ap (λ x. rowOf x (w % 0x800000)) (a ∙ class-in cs (w / 0x800000) p k) in
-    let l : r < 256 = rw e (row-few (w / 0x800000) (w % 0x800000) k) in
-    (l, rw q (value-at entryAt 256 r 0 l ∙ ap entryAt e))
+-- the word's entry, by the code of the field that chooses it
+pub field-entry : (l : List ℕ) (w key x : ℕ) → l ≡ fieldTable → w < 0x100000000 → key ≡ keyAt (w / 0x800000) → (key / 128 % 2 ≡ 0 → ⊥) →
+    x ≡ key / 0x200000 + bitAnd (w / 2 ^ (key / 0x10000 % 32)) (key / 0x100 % 256) → (x < 644) × (getD l x 0 ≡ entryOf w)
+field-entry l w key x p h q n e =
+    let f = key-field w h (rw q at n) in
+    let y : x ≡ _ = rw q at e in
+    let b : x < 644 = rw y (f .0) in
+    (b, field-at l x p b ∙ rw y (f .1))
 
 module _ (c : Config) (w : ℕ) where
   -- 5, 6, 7
@@ -135,15 +95,8 @@ module _ (c : Config) (w : ℕ) where
     quick-verdict z l h q = sym (verdict-is ∙ rw (reads-all (quick c w l h q), z))
 
     pub quick-below : mode ≡ 0 → Holds (lawful c) → w < 0x100000000 → (e : ℕ) → e ≡ entryOf w →
-        ltb (w / 65536 % 128) (upperLimit c (checkAt (e % 64))) && ltb (w % 65536) (lowerLimit c (checkAt (e % 64))) ≡ true → 0 ≡ verdictOf c mode w
-    quick-below z l h e q t =
-        let u = rw q at t in
-        let v = true-is _ u in
-        quick-verdict z l h
-        (record {
-          upper = ltb→lt _ _ (and-left (ltb (w / 65536 % 128) (upperLimit c (checkAt (entryOf w % 64)))) _ v);
-          lower = ltb→lt _ _ (and-right (ltb (w / 65536 % 128) (upperLimit c (checkAt (entryOf w % 64)))) (ltb (w % 65536) (lowerLimit c (checkAt (entryOf w % 64)))) v);
-        })
+        eqb (bitAnd w (maskOf (upperLimit c (checkAt (e % 64))) (lowerLimit c (checkAt (e % 64))))) 0 ≡ true → verdictOf c mode w ≡ 0
+    quick-below z l h e q t = sym (quick-verdict z l h (mask-quick c w l h (eqb-true _ 0 (rw q at t))))
 
     -- a word that is refused
     pub refused-verdict : (x : Refusal) → readingOf (Refused x) ≡ readLawful c w → refusalNumber x ≡ verdictOf c mode w
@@ -224,3 +177,26 @@ module _ (e : Env) (s : State) (w n : ℕ) (here : w ≡ getD (e .image) (s .cor
         (ap (λ (x : ℕ). 2 + waitOf (e .config) (checkAt (x % 64))) (q ∙ sym (r .3)) ∙
         (ap (λ (x : ℕ). 2 + x) v ∙
         ap (λ (i : Instruction). 2 + pick (factsOf (i .row) .input || factsOf (i .row) .load && not (eqb (e .config .dmpipe) 0)) 1 0) parts-here))
+
+-- 4 to 8, each tested, stop the step
+pub exact-stop : (e : Env) (s : State) (n : ℕ) →
+    n ≡ pick (ltb (s .core .pc) (e .config .imsize)) (verdictOf (e .config) (s .core .mode) (getD (e .image) (s .core .pc) 0)) 4 → (n ≡ 0 → ⊥) →
+    advanceOf e s .number ≡ n
+unfolding pick
+exact-stop e s n q z = go (ltb (s .core .pc) (e .config .imsize)) refl
+  where
+    go : (b : Bool) → ltb (s .core .pc) (e .config .imsize) ≡ b → advanceOf e s .number ≡ n
+    go true t =
+        let h = ltb-true _ _ t in
+        let v : n ≡ verdictOf (e .config) (s .core .mode) (getD (e .image) (s .core .pc) 0) = rw t at q in
+        sym (ap (λ (o : Outcome). o .number) (refused-by e s (stopped (s .core) n) (stopped-here e s _ n refl v h z) z))
+    go false t =
+        let h = ltb-false _ _ t in
+        let v : n ≡ 4 = rw t at q in
+        sym (ap (λ (o : Outcome). o .number) (refused-by e s (stopped (s .core) 4) (outside e s h) (λ u. omega arith))) ∙ sym v
+
+-- or settle that there is none of 5 to 8
+pub exact-ready : (c : Config) (image : List ℕ) (m : Core) (n : ℕ) →
+    n ≡ pick (ltb (m .pc) (c .imsize)) (verdictOf c (m .mode) (getD image (m .pc) 0)) 4 → n ≡ 0 → Ready c image m
+unfolding pick
+exact-ready c image m n q z = record { none-of-5-to-8 = λ h. sym (rw (lt-ltb _ _ h) at q) ∙ z }

@@ -4,7 +4,7 @@ use mathlib.Core.Bool.{Bool}
 use mathlib.Core.Path.{_≡_}
 use mathlib.Core.List.{List, [], _∷_, _++_}
 use lib.Dec.{ltb, eqb}
-use lib.ListN.{length}
+use lib.ListN.{getD, length}
 use Rattle.laws.specs.Choice.{pick}
 use Rattle.laws.specs.First.{first-failing}
 use Rattle.laws.specs.Test.{Test, test, Holds}
@@ -19,8 +19,8 @@ use Rattle.words.specs.Kinds.{compute, shift, transform, bytewise}
 use Rattle.words.specs.Rows.{rowAt}
 use Rattle.words.specs.Words.{partsOf, refusals567}
 use Rattle.words.specs.Facts.{factsOf}
-use Rattle.words.specs.Packed.{Tables}
-use Rattle.words.specs.Lookup.{entryTable, uppers, lowers, waits, entryFacts, Agrees}
+use Rattle.words.specs.Lookup.{entryFacts, Agrees}
+use Rattle.words.specs.Finding.{keyTable, fieldTable, masks, costs}
 use Rattle.arith.specs.declared.Operation.{Operation}
 use Rattle.state.specs.Cores.{next, flagged, stopped, moved, toRegister}
 use Rattle.state.specs.Operands.{View, specialRegister}
@@ -92,10 +92,13 @@ verdictOf c mode w =
 pub record Acts (v : View) (e w : ℕ) (r : Change) : Type 0 where
   pub acts : (i : Instruction) → Agrees (v .config .regsize) (e / 0x4000000) w i → r ≡ act v i (entryFacts e)
 
--- the tables that are lent are those of words, and the limits and waits those of the configuration
-pub record Lent (c : Config) (classes bases packs entries upper lower wait : List ℕ) : Type 0 where
-  pub tables : Tables classes bases packs
-  pub entries-right : entries ≡ entryTable
-  pub uppers-right : upper ≡ uppers c
-  pub lowers-right : lower ≡ lowers c
-  pub waits-right : wait ≡ waits c
+-- 5 to 8 are settled at PC: none, where there is a word
+pub record Ready (c : Config) (image : List ℕ) (m : Core) : Type 0 where
+  pub none-of-5-to-8 : m .pc < c .imsize → verdictOf c (m .mode) (getD image (m .pc) 0) ≡ 0
+
+-- the tables that are lent are those of words, and the masks and costs those of the configuration
+pub record Lent (c : Config) (key field mask cost : List ℕ) : Type 0 where
+  pub keys-right : key ≡ keyTable
+  pub fields-right : field ≡ fieldTable
+  pub masks-right : mask ≡ masks c
+  pub costs-right : cost ≡ costs c

@@ -1,3 +1,4 @@
 pub mod Act
+pub mod Stretches
 pub mod Turns
 pub mod Promises

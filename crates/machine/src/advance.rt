@@ -1,19 +1,22 @@
 // One step of a state that 1, 2 and 3 let pass: no memory is looked through.
 ghost use mathlib.Core.Path.{_≡_};
-ghost use mathlib.Core.Bool.{_&&_};
-ghost use Prim.Native.Nat.{_+_, _/_, _%_};
-ghost use lib.Dec.{ltb};
-ghost use lib.ListN.{length};
+ghost use mathlib.Core.Bool.{true, false};
+ghost use Prim.Native.Nat.{_+_, _%_};
+ghost use lib.Bits.{bitAnd};
+ghost use lib.Dec.{eqb, ltb};
+ghost use lib.ListN.{getD, length};
+ghost use Rattle.laws.specs.Choice.{pick as choice};
 ghost use Rattle.laws.specs.Test.{test, Holds};
 ghost use Rattle.words.specs.Configs.{lawful};
 ghost use Rattle.words.specs.Facts.{factsIn};
-ghost use Rattle.words.specs.Packed.{Tables, classTable};
-ghost use Rattle.words.specs.Lookup.{entryTable, entryOf, checkAt, upperLimit, lowerLimit, waitOf, uppers as upperTable, lowers as lowerTable, waits as waitTable};
+ghost use Rattle.words.specs.Packed.{Tables};
+ghost use Rattle.words.specs.Lookup.{entryOf, checkAt, upperLimit, lowerLimit, waitOf};
+ghost use Rattle.words.specs.Finding.{keyTable, fieldTable, maskOf, masks as maskTable, costs as costTable};
 ghost use Rattle.state.specs.State.{env, state, stackLimit};
 ghost use Rattle.state.specs.Stops.{stop8, factsAt};
 ghost use Rattle.state.specs.Step.{cyclesOf, advanceOf};
 ghost use Rattle.state.proofs.Good.{Good};
-ghost use Rattle.machine.specs.Act.{changeAt, verdictOf, Lent};
+ghost use Rattle.machine.specs.Act.{changeAt, verdictOf, Ready, Lent};
 ghost use Rattle.machine.specs.Turns.{turned};
 use crate::Decision;
 use crate::Turn;
@@ -36,28 +39,6 @@ fn allowed(mode: u64, source: u32, p: u64) -> bool
                     | ((source == 1) | ((source == 2) | ((source == 3) | (source == 7)))))))
 }
 
-// The entry of word w's row.
-fn entry_of(classes: &[u8], entries: &[u32], w: u32) -> u32
-    requires { ⌜ (now classes ≡ classTable) × (now entries ≡ entryTable) ⌝ }
-    ensures { λ r. ⌜ r ≡ entryOf w ⌝ }
-{
-    let k = (w / 8388608) as usize;
-    let class = classes[k] as u32;
-    let row = words::row_in(class, w % 8388608) as usize;
-    entries[row]
-}
-
-// Whether w is below the limits of the check of entry e.
-fn below_limits(c: Config, uppers: &[u64], lowers: &[u64], e: u32, w: u32) -> bool
-    requires { ⌜ (now uppers ≡ upperTable c) × (now lowers ≡ lowerTable c) ⌝ }
-    ensures { λ r. ⌜ r ≡ ltb (w / 65536 % 128) (upperLimit c (checkAt (e % 64))) && ltb (w % 65536) (lowerLimit c (checkAt (e % 64))) ⌝ }
-{
-    let t = (e % 64) as usize;
-    let upper = (w / 65536 % 128) as u64;
-    let lower = (w % 65536) as u64;
-    (upper < uppers[t]) & (lower < lowers[t])
-}
-
 // 5 to 8 of a word, each tested.
 fn exact_verdict(c: Config, mode: u64, classes: &[u8], bases: &[u32], packs: &[u64], w: u32) -> u32
     requires { ⌜ Tables (now classes) (now bases) (now packs) ⌝ }
@@ -73,49 +54,81 @@ fn exact_verdict(c: Config, mode: u64, classes: &[u8], bases: &[u32], packs: &[u
     }
 }
 
-// 5 to 8 of a word: none, as a rule, by its limits alone.
-fn verdict(
+// 4 to 8 at PC, each tested.
+pub fn exact_number(
     c: Config,
-    mode: u64,
-    classes: &[u8],
-    bases: &[u32],
-    packs: &[u64],
-    uppers: &[u64],
-    lowers: &[u64],
-    e: u32,
-    w: u32,
-) -> u32
-    requires { ⌜ Tables (now classes) (now bases) (now packs) × (now uppers ≡ upperTable c) × (now lowers ≡ lowerTable c) × Holds (lawful c) × (e ≡ entryOf w) ⌝ }
-    ensures { λ r. ⌜ r ≡ verdictOf c mode w ⌝ }
-{
-    if mode == 0 {
-        if below_limits(c, uppers, lowers, e, w) {
-            return 0;
-        }
-    }
-    exact_verdict(c, mode, classes, bases, packs, w)
-}
-
-// What a step of entry e costs.
-fn cycles_of(c: Config, waits: &[u64], e: u32) -> u64
-    requires { ⌜ now waits ≡ waitTable c ⌝ }
-    ensures { λ r. ⌜ r ≡ 2 + waitOf c (checkAt (e % 64)) ⌝ }
-{
-    2 + waits[(e % 64) as usize]
-}
-
-// What the word at PC does; `limit` is the return stack's.
-fn decide(
-    c: Config,
-    limit: usize,
     m: Core,
     classes: &[u8],
     bases: &[u32],
     packs: &[u64],
-    entries: &[u32],
-    uppers: &[u64],
-    lowers: &[u64],
-    waits: &[u64],
+    image: &[u32],
+) -> u32
+    requires { ⌜ Tables (now classes) (now bases) (now packs) × (length (now image) ≡ c .imsize) ⌝ }
+    ensures { λ r. ⌜ r ≡ choice (ltb (m .pc) (c .imsize)) (verdictOf c (m .mode) (getD (now (image .entry)) (m .pc) 0)) 4 ⌝ }
+{
+    let pc = m.pc;
+    if pc < c.imsize as usize {
+        return exact_verdict(c, m.mode, classes, bases, packs, cell(image, pc));
+    }
+    4
+}
+
+// The entry of word w's row: bits 31-23 choose it, or the field that does.
+fn entry_of(keys: &[u32], fields: &[u32], w: u32) -> u32
+    requires { ⌜ (now keys ≡ keyTable) × (now fields ≡ fieldTable) ⌝ }
+    ensures { λ r. ⌜ r ≡ entryOf w ⌝ }
+{
+    let k = (w / 8388608) as usize;
+    let key = keys[k];
+    if key / 128 % 2 == 0 {
+        return key;
+    }
+    let field = (w >> (key / 65536 % 32)) & (key / 256 % 256);
+    let i = (key / 2097152) as usize + field as usize;
+    fields[i]
+}
+
+// Whether w is below both limits of the check of entry e: one mask tells.
+fn below_limits(c: Config, masks: &[u32], e: u32, w: u32) -> bool
+    requires { ⌜ now masks ≡ maskTable c ⌝ }
+    ensures { λ r. ⌜ r ≡ eqb (bitAnd w (maskOf (upperLimit c (checkAt (e % 64))) (lowerLimit c (checkAt (e % 64))))) 0 ⌝ }
+{
+    let t = (e % 64) as usize;
+    w & masks[t] == 0
+}
+
+// Whether 5 to 8 of word w are settled, so that there is none: it is trusted, or below its limits outside special-register mode.
+fn settled(trusted: bool, c: Config, mode: u64, masks: &[u32], e: u32, w: u32) -> bool
+    requires { ⌜ (now masks ≡ maskTable c) × Holds (lawful c) × (e ≡ entryOf w) × (trusted ≡ true → verdictOf c mode w ≡ 0) ⌝ }
+    ensures { λ r. ⌜ (r ≡ true → verdictOf c mode w ≡ 0) × (trusted ≡ true → r ≡ true) ⌝ }
+{
+    if trusted {
+        return true;
+    }
+    if mode != 0 {
+        return false;
+    }
+    below_limits(c, masks, e, w)
+}
+
+// What a step of entry e costs.
+fn cycles_of(c: Config, costs: &[u64], e: u32) -> u64
+    requires { ⌜ now costs ≡ costTable c ⌝ }
+    ensures { λ r. ⌜ r ≡ 2 + waitOf c (checkAt (e % 64)) ⌝ }
+{
+    costs[(e % 64) as usize]
+}
+
+// What the word at PC does, unless 5 to 8 are not settled; `limit` is the return stack's.
+fn decide(
+    c: Config,
+    limit: usize,
+    m: Core,
+    trusted: bool,
+    keys: &[u32],
+    fields: &[u32],
+    masks: &[u32],
+    costs: &[u64],
     image: &[u32],
     inputs: &[u32],
     stack: &[u32],
@@ -124,27 +137,29 @@ fn decide(
     addresses: &[u32],
     values: &[u32],
 ) -> Decision
-    requires { ⌜ Lent c (now classes) (now bases) (now packs) (now entries) (now uppers) (now lowers) (now waits) × (limit ≡ stackLimit (c .pcstack)) × Good (env c (now image) (now inputs)) (state m (now stack) (now registers) (now memory) (now addresses) (now values)) ⌝ }
-    ensures { λ r. ⌜ (r .change ≡ changeAt (env c (now (image .entry)) (now (inputs .entry))) (state m (now (stack .entry)) (now (registers .entry)) (now (memory .entry)) (now (addresses .entry)) (now (values .entry)))) × (r .change .stop ≡ 0 → r .cycles ≡ cyclesOf c (factsAt (env c (now (image .entry)) (now (inputs .entry))) (state m (now (stack .entry)) (now (registers .entry)) (now (memory .entry)) (now (addresses .entry)) (now (values .entry))))) ⌝ }
+    requires { ⌜ Lent c (now keys) (now fields) (now masks) (now costs) × (limit ≡ stackLimit (c .pcstack)) × (trusted ≡ true → Ready c (now image) m) × Good (env c (now image) (now inputs)) (state m (now stack) (now registers) (now memory) (now addresses) (now values)) ⌝ }
+    ensures { λ r. ⌜ (r .settled ≡ true → r .change ≡ changeAt (env c (now (image .entry)) (now (inputs .entry))) (state m (now (stack .entry)) (now (registers .entry)) (now (memory .entry)) (now (addresses .entry)) (now (values .entry)))) × (r .settled ≡ true → r .change .stop ≡ 0 → r .cycles ≡ cyclesOf c (factsAt (env c (now (image .entry)) (now (inputs .entry))) (state m (now (stack .entry)) (now (registers .entry)) (now (memory .entry)) (now (addresses .entry)) (now (values .entry))))) × (trusted ≡ true → r .settled ≡ true) ⌝ }
 {
     let pc = m.pc;
     if c.imsize as usize <= pc {
         return Decision {
+            settled: true,
             cycles: 0,
             change: m.stopped(4),
         };
     }
     let w = cell(image, pc);
-    let e = entry_of(classes, entries, w);
-    let n = verdict(c, m.mode, classes, bases, packs, uppers, lowers, e, w);
-    if n != 0 {
+    let e = entry_of(keys, fields, w);
+    if !settled(trusted, c, m.mode, masks, e, w) {
         return Decision {
+            settled: false,
             cycles: 0,
-            change: m.stopped(n),
+            change: m.stopped(0),
         };
     }
     Decision {
-        cycles: cycles_of(c, waits, e),
+        settled: true,
+        cycles: cycles_of(c, costs, e),
         change: exec(
             c,
             limit,
@@ -160,18 +175,16 @@ fn decide(
     }
 }
 
-// The step: decided, then carried out.
+// The step: decided, then carried out, unless 5 to 8 are not settled.
 pub fn advance(
     c: Config,
     limit: usize,
     m: Core,
-    classes: &[u8],
-    bases: &[u32],
-    packs: &[u64],
-    entries: &[u32],
-    uppers: &[u64],
-    lowers: &[u64],
-    waits: &[u64],
+    trusted: bool,
+    keys: &[u32],
+    fields: &[u32],
+    masks: &[u32],
+    costs: &[u64],
     image: &[u32],
     inputs: &[u32],
     stack: &mut [u32],
@@ -180,20 +193,18 @@ pub fn advance(
     addresses: &mut [u32],
     values: &mut [u32],
 ) -> Turn
-    requires { ⌜ Lent c (now classes) (now bases) (now packs) (now entries) (now uppers) (now lowers) (now waits) × (limit ≡ stackLimit (c .pcstack)) × (length (now stack) ≡ 63) × Good (env c (now image) (now inputs)) (state m (now stack) (now registers) (now memory) (now addresses) (now values)) ⌝ }
-    ensures { λ r. ⌜ turned r (now (stack .exit)) (now (registers .exit)) (now (memory .exit)) (now (addresses .exit)) (now (values .exit)) ≡ advanceOf (env c (now (image .entry)) (now (inputs .entry))) (state m (now (stack .entry)) (now (registers .entry)) (now (memory .entry)) (now (addresses .entry)) (now (values .entry))) ⌝ }
+    requires { ⌜ Lent c (now keys) (now fields) (now masks) (now costs) × (limit ≡ stackLimit (c .pcstack)) × (length (now stack) ≡ 63) × (trusted ≡ true → Ready c (now image) m) × Good (env c (now image) (now inputs)) (state m (now stack) (now registers) (now memory) (now addresses) (now values)) ⌝ }
+    ensures { λ r. ⌜ (r .settled ≡ true → turned r (now (stack .exit)) (now (registers .exit)) (now (memory .exit)) (now (addresses .exit)) (now (values .exit)) ≡ advanceOf (env c (now (image .entry)) (now (inputs .entry))) (state m (now (stack .entry)) (now (registers .entry)) (now (memory .entry)) (now (addresses .entry)) (now (values .entry)))) × (r .settled ≡ false → state (r .core) (now (stack .exit)) (now (registers .exit)) (now (memory .exit)) (now (addresses .exit)) (now (values .exit)) ≡ state m (now (stack .entry)) (now (registers .entry)) (now (memory .entry)) (now (addresses .entry)) (now (values .entry))) × (trusted ≡ true → r .settled ≡ true) ⌝ }
 {
     let d = decide(
         c,
         limit,
         m,
-        classes,
-        bases,
-        packs,
-        entries,
-        uppers,
-        lowers,
-        waits,
+        trusted,
+        keys,
+        fields,
+        masks,
+        costs,
         image,
         inputs,
         stack,
@@ -202,10 +213,19 @@ pub fn advance(
         addresses,
         values,
     );
+    if !d.settled {
+        return Turn {
+            settled: false,
+            stop: 0,
+            cycles: 0,
+            core: m,
+        };
+    }
     let x = d.change;
     let stop = x.stop;
     if stop != 0 {
         return Turn {
+            settled: true,
             stop,
             cycles: 0,
             core: m,
@@ -214,6 +234,7 @@ pub fn advance(
     commit(x, stack, registers, memory, addresses, values);
     let core = x.core;
     Turn {
+        settled: true,
         stop: 0,
         cycles: d.cycles,
         core,

@@ -6,6 +6,7 @@ mod guards;
 mod memories;
 mod plans;
 mod stepping;
+mod stretching;
 mod values;
 
 pub use guards::in_ranges;
@@ -15,15 +16,26 @@ use state::Machine;
 pub use stepping::run;
 pub use stepping::step;
 
-// What the word at PC does: its change or stop, and, where it is not stopped, its cycles.
+// What the word at PC does, where that is settled: its change or stop, and, where it is not stopped, its cycles.
 pub struct Decision {
+    pub settled: bool,
     pub cycles: u64,
     pub change: Change,
 }
 
-// What one step gives beside the memories.
+// What one step gives beside the memories, where that is settled.
 pub struct Turn {
+    pub settled: bool,
     pub stop: u32,
+    pub cycles: u64,
+    pub core: Core,
+}
+
+// How far steps came: `settled` where the budget is spent or a step was stopped, else before the next one; what they gave beside the memories.
+pub struct Stretch {
+    pub settled: bool,
+    pub stop: u32,
+    pub steps: u64,
     pub cycles: u64,
     pub core: Core,
 }

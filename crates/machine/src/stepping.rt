@@ -2,6 +2,7 @@
 ghost use mathlib.Core.Path.{_≡_};
 ghost use Prim.Native.Nat.{_≤_};
 ghost use lib.ListN.{length};
+ghost use Rattle.laws.specs.Choice.{pick as choice};
 ghost use Rattle.state.specs.State.{env, state};
 ghost use Rattle.state.specs.Run.{runOf};
 ghost use Rattle.state.proofs.Good.{Good};
@@ -10,11 +11,19 @@ ghost use Rattle.machine.specs.Turns.{machineState, stepped, endOf, turn
 use crate::Ran;
 use crate::Stepped;
 use crate::Turns;
-use crate::advance::advance;
+use crate::advance::exact_number;
 use crate::guards::refusal;
+use crate::stretching::stretch;
 use state::Core;
 use state::Machine;
 use words::Config;
+
+// How many steps of `left` a stretch is to make: one of a trusted word.
+fn share(trusted: bool, left: u64) -> u64
+    ensures { λ r. ⌜ r ≡ choice trusted 1 left ⌝ }
+{
+    if trusted { 1 } else { left }
+}
 
 // Steps of a state that 1, 2 and 3 let pass, to the budget or to a stop. The tables are built here, once, beside the loop that uses them.
 fn turns(
@@ -35,26 +44,25 @@ fn turns(
     let classes = words::class_table();
     let bases = words::base_table();
     let packs = words::row_table();
-    let entries = words::entry_table();
-    let uppers = words::upper_limits(c);
-    let lowers = words::lower_limits(c);
-    let waits = words::wait_table(c);
+    let keys = words::key_table();
+    let fields = words::field_table();
+    let masks = words::mask_table(c);
+    let costs = words::cost_table(c);
     let limit = Machine::stack_limit(c.pcstack);
     let mut core = first;
-    let mut left = budget;
+    let mut done: u64 = 0;
     let mut cycles: u64 = 0;
-    while 0 < left {
-        let t = advance(
+    let mut trusted = false;
+    while done < budget {
+        let t = stretch(
             c,
             limit,
             core,
-            &classes,
-            &bases,
-            &packs,
-            &entries,
-            &uppers,
-            &lowers,
-            &waits,
+            trusted,
+            &keys,
+            &fields,
+            &masks,
+            &costs,
             image,
             inputs,
             stack,
@@ -62,23 +70,38 @@ fn turns(
             memory,
             addresses,
             values,
+            share(trusted, budget - done),
         );
         let next = t.core;
         core = next;
+        cycles = cycles + t.cycles;
+        done = done + t.steps;
         if t.stop != 0 {
             return Turns {
                 stop: t.stop,
-                steps: budget - left,
+                steps: done,
                 cycles,
                 core,
             };
         }
-        cycles = cycles + t.cycles;
-        left = left - 1;
+        if t.settled {
+            trusted = false;
+        } else {
+            let n = exact_number(c, core, &classes, &bases, &packs, image);
+            if n != 0 {
+                return Turns {
+                    stop: n,
+                    steps: done,
+                    cycles,
+                    core,
+                };
+            }
+            trusted = true;
+        }
     }
     Turns {
         stop: 0,
-        steps: budget,
+        steps: done,
         cycles,
         core,
     }
