@@ -12,7 +12,8 @@ mod width;
 use bytes::bld_word;
 use bytes::blds_word;
 use bytes::bst_word;
-use immediates::extend;
+use immediates::shifted;
+use immediates::sign_extended;
 use logic::and_word;
 use logic::or_word;
 use logic::xor_word;
@@ -125,9 +126,9 @@ pub fn immediate(width: u32, form: Form, v: u32) -> u32
 {
     let w = bits_of(width);
     let x = v % 65536;
-    if w == 32 {
-        extend(form, x)
-    } else {
-        truncate(w, x)
+    match form {
+        Form::Signed => truncate(w, sign_extended(x)),
+        Form::Unsigned => truncate(w, x),
+        Form::Shifted => shifted(w, x),
     }
 }

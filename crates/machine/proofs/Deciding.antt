@@ -132,15 +132,16 @@ module _ (e : Env) (s : State) where
           absurd (eqb-false (number e s) 0 r (sym z ∙ h))
 
   -- the code's sums are small, and its registers are there
-  pub ready : (limit : ℕ) → Good e s → limit ≡ stackLimit (e .config .pcstack) → s .core .pc < e .config .imsize →
+  pub ready : (limit : ℕ) → Good e s → limit ≡ stackLimit (e .config .pcstack) → length (s .stack) ≡ 63 → s .core .pc < e .config .imsize →
       Fit (e .config) (s .core) (length (s .registers)) × (contextOf (s .core) < 4294967296) × (length (s .memory) ≡ e .config .dmsize) ×
-      (limit ≡ stackLimit (e .config .pcstack))
+      (limit ≡ stackLimit (e .config .pcstack)) ×
+      (s .core .depth ≤ length (s .stack))
   unfolding contextOf
-  ready limit g q h =
+  ready limit g q l h =
       let b = bounds (e .config) (g .lawful) in
       let m = g .core in
       let small : Small (s .core) = record { pc = m .pc; wp = omega arith; rx = omega arith; depth = omega arith } in
       let fit : Fit (e .config) (s .core) (length (s .registers)) =
       record { lawful = g .lawful; small = small; bank = omega (arith, m .bank .inside, g .registers); index = m .indices .x } in
       let context : contextOf (s .core) < 4294967296 = omega arith in
-      (fit, context, g .memory, q)
+      (fit, context, g .memory, q, omega (arith, l))

@@ -137,7 +137,7 @@ fn decide(
     addresses: &[u32],
     values: &[u32],
 ) -> Decision
-    requires { ⌜ Lent c (now keys) (now fields) (now masks) (now costs) × (limit ≡ stackLimit (c .pcstack)) × (trusted ≡ true → Ready c (now image) m) × Good (env c (now image) (now inputs)) (state m (now stack) (now registers) (now memory) (now addresses) (now values)) ⌝ }
+    requires { ⌜ Lent c (now keys) (now fields) (now masks) (now costs) × (limit ≡ stackLimit (c .pcstack)) × (length (now stack) ≡ 63) × (trusted ≡ true → Ready c (now image) m) × Good (env c (now image) (now inputs)) (state m (now stack) (now registers) (now memory) (now addresses) (now values)) ⌝ }
     ensures { λ r. ⌜ (r .settled ≡ true → r .change ≡ changeAt (env c (now (image .entry)) (now (inputs .entry))) (state m (now (stack .entry)) (now (registers .entry)) (now (memory .entry)) (now (addresses .entry)) (now (values .entry)))) × (r .settled ≡ true → r .change .stop ≡ 0 → r .cycles ≡ cyclesOf c (factsAt (env c (now (image .entry)) (now (inputs .entry))) (state m (now (stack .entry)) (now (registers .entry)) (now (memory .entry)) (now (addresses .entry)) (now (values .entry))))) × (trusted ≡ true → r .settled ≡ true) ⌝ }
 {
     let pc = m.pc;

@@ -57,7 +57,7 @@ pub fn exec(
     e: u32,
     w: u32,
 ) -> Change
-    requires { ⌜ Fit c m (length (now registers)) × (contextOf m < 4294967296) × (length (now memory) ≡ c .dmsize) × (limit ≡ stackLimit (c .pcstack)) ⌝ }
+    requires { ⌜ Fit c m (length (now registers)) × (contextOf m < 4294967296) × (length (now memory) ≡ c .dmsize) × (limit ≡ stackLimit (c .pcstack)) × (m .depth ≤ length (now stack)) ⌝ }
     ensures { λ r. ⌜ Acts (view c m (now (stack .entry)) (now (registers .entry)) (now (memory .entry)) (now (inputs .entry)) room) e w r ⌝ }
 {
     let last = c.regsize - 1;

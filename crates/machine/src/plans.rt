@@ -17,7 +17,6 @@ use crate::values::cell;
 use crate::values::condition_met;
 use crate::values::cut;
 use crate::values::one;
-use crate::values::value_at;
 use crate::values::wide;
 use crate::values::with_top_bit;
 use arith::Form;
@@ -255,15 +254,16 @@ pub fn call(limit: usize, m: Core, p: usize) -> Change
 
 // The core that returns to the newest address.
 fn returned(m: Core, newest: usize, stack: &[u32]) -> Core
+    requires { ⌜ newest < length (now stack) ⌝ }
     ensures { λ r. ⌜ r ≡ deep (posting (at m (getD (now (stack .entry)) newest 0)) 0 0) newest ⌝ }
 {
-    let back = value_at(stack, newest) as usize;
+    let back = cell(stack, newest) as usize;
     m.go(back).deep(newest)
 }
 
 // RET: 11 with the return stack empty.
 pub fn ret(m: Core, stack: &[u32]) -> Change
-    requires { ⌜ Small m ⌝ }
+    requires { ⌜ Small m × (m .depth ≤ length (now stack)) ⌝ }
     ensures { λ r. ⌜ r ≡ choice (ltb 0 (m .depth)) (toStack (deep (at (next m) (getD (now (stack .entry)) (m .depth - 1) 0)) (m .depth - 1)) (m .depth - 1) 0) (stopped m 11) ⌝ }
 {
     let d = m.depth;
@@ -275,7 +275,7 @@ pub fn ret(m: Core, stack: &[u32]) -> Change
 
 // RLD: a return that loads a constant.
 pub fn ret_constant(c: Config, m: Core, i: usize, v: u32, stack: &[u32]) -> Change
-    requires { ⌜ Small m ⌝ }
+    requires { ⌜ Small m × (m .depth ≤ length (now stack)) ⌝ }
     ensures { λ r. ⌜ r ≡ choice (ltb 0 (m .depth)) (change (deep (at (next m) (getD (now (stack .entry)) (m .depth - 1) 0)) (m .depth - 1)) (write i (constant c Signed v)) none (write (m .depth - 1) 0) none none) (stopped m 11) ⌝ }
 {
     let d = m.depth;

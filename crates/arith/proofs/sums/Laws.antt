@@ -74,6 +74,23 @@ pub raise-code : (w a : ℕ) → 8 ≤ w → a < 2 ^ w → bitXor a (half w) ≡
 unfolding raised
 raise-code w a h l = flip (w - 1) a (rw (← add-one (w - 1), sub-add-cancel {n = w} {m = 1} (le-trans (lit≤ tt) h)) l)
 
+-- a half word with its top bit flipped, less 2 ^ 15, is the word sign extended
+pub signed-code : (v r : ℕ) → v < 65536 → r < 2 ^ 32 → (r + 32768) % 2 ^ 32 ≡ bitXor v 32768 → r ≡ pick (leb 32768 v) (v + 0xffff0000) v
+unfolding raised pick
+signed-code v r h l q = go (decLe 32768 v)
+  where
+    code : (r + 32768) % 2 ^ 32 ≡ raised 16 v
+    code = q ∙ raise-code 16 v (omega arith) h
+
+    go : Dec (32768 ≤ v) → r ≡ pick (leb 32768 v) (v + 0xffff0000) v
+    go (yes p) =
+        let e : (r + 32768) % 2 ^ 32 ≡ v - 32768 = rw (le-leb 32768 v p) at code in
+        rw (le-leb 32768 v p) (omega arith)
+    go (no n) =
+        let p : v < 32768 = lt-of-not-le n in
+        let e : (r + 32768) % 2 ^ 32 ≡ v + 32768 = rw (lt-leb 32768 v p) at code in
+        rw (lt-leb 32768 v p) (omega arith)
+
 -- two tests that say the same
 same-test : (a b c d : ℕ) → (a < b → c < d) → (c < d → a < b) → ltb a b ≡ ltb c d
 same-test a b c d f g = go (decLe (suc a) b)

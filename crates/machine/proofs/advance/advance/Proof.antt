@@ -11,7 +11,7 @@ use Rattle.machine.proofs.advance.advance.Statement.{statement}
 use Rattle.machine.proofs.advance.advance.Tie as tie
 
 decide-requires : tie.Need-decide-requires
-decide-requires c κs = (c .before .before .before .before .before .before .before .before .before .before .before .before .before .before .before .before .pre .0, c .before .before .before .before .before .before .before .before .before .before .before .before .before .before .before .before .pre .1, c .before .before .before .before .before .before .before .before .before .before .before .before .before .before .before .before .pre .3, c .before .before .before .before .before .before .before .before .before .before .before .before .before .before .before .before .pre .4)
+decide-requires c κs = (c .before .before .before .before .before .before .before .before .before .before .before .before .before .before .before .before .pre .0, c .before .before .before .before .before .before .before .before .before .before .before .before .before .before .before .before .pre .1, c .before .before .before .before .before .before .before .before .before .before .before .before .before .before .before .before .pre .2, c .before .before .before .before .before .before .before .before .before .before .before .before .before .before .before .before .pre .3, c .before .before .before .before .before .before .before .before .before .before .before .before .before .before .before .before .pre .4)
 
 returns : tie.Need-returns
 returns c = ((λ z. clash false z refl), (λ _. refl), (λ t. clash _ (c .before .before .decide .ensures .2 t) (not-true _ (c .if1 .taken))))
