@@ -9,7 +9,7 @@ use borrow.Author.Tests.{lt-ltb, ltb-true, ltb-false, ne-eqb, eqb-true}
 use lib.Bits.{bitAnd}
 use lib.Dec.{eqb, ltb}
 use lib.ListN.{getD}
-use Rattle.laws.specs.Choice.{pick, either, true-is}
+use Rattle.laws.specs.Choice.{pick, true-is}
 use Rattle.laws.specs.Test.{Test, test, imp, Holds}
 use Rattle.laws.specs.First.{first-failing, first-append}
 use Rattle.words.specs.declared.Config.{Config}
@@ -23,7 +23,6 @@ use Rattle.words.specs.Words.{refusals567, answered, partsOf, readBy, readLawfu
 use Rattle.words.specs.Answers.{refusalNumber, readingOf}
 use Rattle.words.specs.Claims.{understood}
 use Rattle.words.specs.Facts.{factsOf, factsIn}
-use Rattle.words.specs.Actions.{input, load}
 use Rattle.words.specs.Lookup.{entryOf, entryFacts, checkAt, upperLimit, lowerLimit, waitOf, Quick, Agrees}
 use Rattle.words.specs.Finding.{keyAt, fieldTable, maskOf}
 use Rattle.words.proofs.RoundTrip.{decoded}
@@ -47,13 +46,6 @@ clash b p q = absurd (rw q at (true-is b p))
 -- a stop is no pass
 pub halted : {A : Type 0} (x : Change) (m : Core) (n : ℕ) → x ≡ stopped m n → (n ≡ 0 → ⊥) → x .stop ≡ 0 → A
 halted x m n p h z = absurd (h (sym (ap (λ (y : Change). y .stop) p) ∙ z))
-
-pub wait-small : (c : Config) (t : ℕ) → waitOf c (checkAt t) ≤ 1
-unfolding waitOf
-wait-small c t =
-    let k = checkAt t in
-    either (λ x. x ≤ 1) (eqb (k .wait) input) 1 _ (λ u. omega arith)
-    (λ u. either (λ x. x ≤ 1) (eqb (k .wait) load && not (eqb (c .dmpipe) 0)) 1 0 (λ v. omega arith) (λ v. omega arith))
 
 -- the word's entry, by the code of the field that chooses it
 pub field-entry : (l : List ℕ) (w key x : ℕ) → l ≡ fieldTable → w < 0x100000000 → key ≡ keyAt (w / 0x800000) → (key / 128 % 2 ≡ 0 → ⊥) →

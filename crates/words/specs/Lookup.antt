@@ -76,9 +76,6 @@ uppers c = values (λ t. upperLimit c (checkAt t)) 0 64
 unfoldable pub lowers : Config → List ℕ
 lowers c = values (λ t. lowerLimit c (checkAt t)) 0 64
 
-unfoldable pub waits : Config → List ℕ
-waits c = values (λ t. waitOf c (checkAt t)) 0 64
-
 -- word w passes the check of its entry; then it can be read
 pub record Quick (c : Config) (w : ℕ) : Type 0 where
   pub upper : w / 65536 % 128 < upperLimit c (checkAt (entryOf w % 64))

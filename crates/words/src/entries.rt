@@ -1,21 +1,12 @@
-// Looking a word up by lent tables: the entry of its row, and the limits and waits of the entry's check (specs/Lookup.antt). A caller that reads many words
+// Looking a word up by lent tables: the entry of its row, and the limits and costs of the entry's check (specs/Lookup.antt). A caller that reads many words
 // takes them once.
 ghost use Prim.Native.Nat.{_-_};
 ghost use mathlib.Core.Path.{_≡_};
 ghost use Rattle.laws.specs.Choice.{pick as choice};
-ghost use Rattle.words.specs.Classes.{rowOf};
 ghost use Rattle.words.specs.Finding.{maskOf, masks, costs};
-ghost use Rattle.words.specs.Lookup.{entryTable, uppers, lowers, waits};
+ghost use Rattle.words.specs.Lookup.{entryTable, uppers, lowers};
 use crate::Config;
 use crate::columns::ENTRIES;
-use crate::rows::row_of;
-
-// The row of class `class`, where f is bits 22-0; a number below 256.
-pub fn row_in(class: u32, f: u32) -> u32
-    ensures { λ r. ⌜ r ≡ rowOf class f ⌝ }
-{
-    row_of(class, f)
-}
 
 // The entry of each row; past the rows none.
 pub fn entry_table() -> [u32; 256]
@@ -189,79 +180,6 @@ pub fn lower_limits(c: Config) -> [u64; 64]
         1,
         1,
         1,
-    ]
-}
-
-// What a step waits beyond two cycles, by the check.
-pub fn wait_table(c: Config) -> [u64; 64]
-    ensures { λ r. ⌜ r ≡ waits c ⌝ }
-{
-    let load = pick(!(c.dmpipe == 0), 1, 0);
-    [
-        0,
-        0,
-        0,
-        0,
-        0,
-        0,
-        0,
-        0,
-        0,
-        0,
-        0,
-        0,
-        load,
-        load,
-        load,
-        0,
-        0,
-        1,
-        1,
-        0,
-        0,
-        0,
-        0,
-        0,
-        0,
-        0,
-        0,
-        0,
-        0,
-        0,
-        0,
-        0,
-        0,
-        0,
-        0,
-        0,
-        0,
-        0,
-        0,
-        0,
-        0,
-        0,
-        0,
-        0,
-        0,
-        0,
-        0,
-        0,
-        0,
-        0,
-        0,
-        0,
-        0,
-        0,
-        0,
-        0,
-        0,
-        0,
-        0,
-        0,
-        0,
-        0,
-        0,
-        0,
     ]
 }
 

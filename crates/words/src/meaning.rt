@@ -43,32 +43,6 @@ pub fn packed_lent(packs: &[u64], n: u32) -> u64
     packed_at(packs, n)
 }
 
-// The kind, the ALU operation, the form of the operand, the JMP condition, and the marks in a row's packed number.
-
-pub fn kind_in(p: u64) -> u32
-    ensures { λ r. ⌜ r ≡ factsIn p .kind ⌝ }
-{
-    (p / 0x1000000 % 256) as u32
-}
-
-pub fn operation_in(p: u64) -> u32
-    ensures { λ r. ⌜ r ≡ factsIn p .operation ⌝ }
-{
-    (p / 0x100000000 % 256) as u32
-}
-
-pub fn form_in(p: u64) -> u32
-    ensures { λ r. ⌜ r ≡ factsIn p .form ⌝ }
-{
-    (p / 0x10000000000 % 16) as u32
-}
-
-pub fn condition_in(p: u64) -> u32
-    ensures { λ r. ⌜ r ≡ factsIn p .condition ⌝ }
-{
-    (p / 0x100000000000 % 16) as u32
-}
-
 // The facts of row n by a lent table. Whatever it holds, they are `factsLent` of it; with `row_table` that is `factsOf`.
 pub fn facts_lent(packs: &[u64], n: u32) -> Facts
     ensures { λ r. ⌜ r ≡ factsLent (now (packs .entry)) n ⌝ }
