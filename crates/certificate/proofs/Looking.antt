@@ -11,7 +11,8 @@ use Rattle.words.specs.declared.Reading.the-variants.{Decoded, Refused}
 use Rattle.words.specs.Words.{Read, readLawful}
 use Rattle.words.specs.Answers.{refusalNumber, readingOf}
 use Rattle.words.specs.Packed.{Tables, readLent}
-use Rattle.words.specs.Facts.{factsOf, factsIn}
+use Rattle.words.specs.Facts.{factsOf}
+use Rattle.words.specs.Packed.{factsIn}
 use Rattle.words.proofs.Lent.{read-lent}
 use Rattle.certificate.specs.declared.reading.Parts.{Parts}
 use Rattle.certificate.specs.Reading.{PartsOf}

@@ -10,7 +10,7 @@ use Rattle.laws.specs.Choice.{pick}
 use Rattle.laws.specs.Test.{test, imp, most, yes?, if?}
 use Rattle.words.specs.declared.Config.{Config}
 use Rattle.words.specs.declared.Facts.{Facts}
-use Rattle.words.specs.Facts.{factsIn}
+use Rattle.words.specs.Packed.{factsIn}
 use Rattle.state.specs.State.{stackLimit}
 use Rattle.rules.specs.Marks.{markAt, used, levelOf}
 use Rattle.rules.specs.Rules.{rule1, rule3, rule4, rule5, rule6, rule7, rules, readsPort}

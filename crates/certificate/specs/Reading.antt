@@ -3,7 +3,8 @@ use Prim.Native.Nat.{ℕ}
 use mathlib.Core.Path.{_≡_}
 use Rattle.words.specs.declared.Config.{Config}
 use Rattle.words.specs.Words.{readLawful}
-use Rattle.words.specs.Facts.{factsOf, factsIn}
+use Rattle.words.specs.Facts.{factsOf}
+use Rattle.words.specs.Packed.{factsIn}
 use Rattle.certificate.specs.declared.reading.Parts.{Parts}
 
 -- the parts of word w as it is read, and its row's facts; of one that cannot be read, those of zeros

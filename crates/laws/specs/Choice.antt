@@ -25,6 +25,15 @@ module _ {A : Type 0} where
   either P true x y p q = p tt
   either P false x y p q = q λ t. t
 
+-- a decision, as a test
+abbrev pub decided : {P : Type 0} → Dec P → Bool
+decided (yes p) = true
+decided (no p) = false
+
+pub decided-yes : {P : Type 0} (d : Dec P) → T (decided d) → P
+decided-yes (yes p) t = p
+decided-yes (no p) t = absurd t
+
 -- a test that holds is true, and the other way round
 pub is-true : (b : Bool) → T b → b ≡ true
 is-true true h = refl

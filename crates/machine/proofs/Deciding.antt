@@ -11,27 +11,23 @@ use lib.ListN.{length, getD}
 use Rattle.laws.specs.Choice.{pick}
 use Rattle.laws.specs.Test.{Test, test, and-left, and-right, Below}
 use Rattle.laws.specs.First.{first-failing, positive}
-use Rattle.laws.specs.Lists.{column, column-at}
-use Rattle.laws.specs.Cells.{below-at}
 use Rattle.words.specs.declared.Config.{Config}
 use Rattle.words.specs.declared.Instruction.{Instruction}
-use Rattle.words.specs.declared.Facts.{Facts}
 use Rattle.words.specs.declared.Refusal.{Refusal}
 use Rattle.words.specs.declared.Refusal.the-variants.{Unlawful, NoRow, Unavailable, OutOfRange}
 use Rattle.words.specs.declared.Reading.the-variants.{Decoded, Refused}
-use Rattle.words.specs.Kinds.{marksOf}
+use Rattle.words.specs.Kinds.{Kind, unsupported, compute, compare, multiply, bytewise, load-index, index-store, index-load, move, load-constant, load-register, load-direct, store-register, store-direct, port-read, port-modify, port-write, jump, branch, jump-register, branch-register, call, call-register, return, return-constant, enter-bank, leave-bank, enter-special, leave-special}
 use Rattle.words.specs.Rows.{rowAt}
 use Rattle.words.specs.Words.{refusals567, answered, partsBy, partsOf, readBy, readLawful}
 use Rattle.words.specs.Answers.{refusalNumber, readingOf}
-use Rattle.words.specs.Facts.{facts, factsOf, factsIn}
 use Rattle.words.proofs.RoundTrip.{decoded}
 use Rattle.state.specs.declared.Core.{Core}
 use Rattle.state.specs.declared.Change.{Change}
 use Rattle.state.specs.State.{Env, State, stackLimit}
 use Rattle.state.specs.Cores.{stopped, moved, next}
 use Rattle.state.specs.Operands.{View, viewOf}
-use Rattle.state.specs.Plans.{contextOf, comparePlan, computePlan, multiplyPlan, loadIndexPlan, indexStorePlan, indexLoadPlan, movePlan, constantPlan, loadRegisterPlan, loadDirectPlan, storeRegisterPlan, storeDirectPlan, portReadPlan, portWritePlan, portModifyPlan, jumpPlan, branchPlan, jumpRegisterPlan, branchRegisterPlan, callPlan, callRegisterPlan, returnPlan, returnConstantPlan, enterBankPlan, leaveBankPlan, enterSpecialPlan, leaveSpecialPlan, plans, planOf}
-use Rattle.state.specs.Stops.{stop8, stops9to15, partsAt, factsAt, stops}
+use Rattle.state.specs.Plans.{contextOf, comparePlan, computePlan, multiplyPlan, loadIndexPlan, indexStorePlan, indexLoadPlan, movePlan, constantPlan, loadRegisterPlan, loadDirectPlan, storeRegisterPlan, storeDirectPlan, portReadPlan, portWritePlan, portModifyPlan, jumpPlan, branchPlan, jumpRegisterPlan, branchRegisterPlan, callPlan, callRegisterPlan, returnPlan, returnConstantPlan, enterBankPlan, leaveBankPlan, enterSpecialPlan, leaveSpecialPlan, planOf}
+use Rattle.state.specs.Stops.{stop8, stops9to15, partsAt, kindAt, factsAt, stops}
 use Rattle.state.specs.Step.{number, applied, planAt, cyclesOf, Outcome, refused, advanceOf}
 use Rattle.state.proofs.Good.{Good, Bounds, bounds}
 use Rattle.state.proofs.Apply.{Landing}
@@ -64,6 +60,39 @@ not-zero NoRow e = omega arith
 not-zero Unavailable e = omega arith
 not-zero OutOfRange e = omega arith
 
+-- no plan is a stop
+plan-stops : (v : View) (i : Instruction) (k : Kind) → planOf v i k .stop ≡ 0
+unfolding planOf comparePlan computePlan multiplyPlan loadIndexPlan indexStorePlan indexLoadPlan movePlan constantPlan loadRegisterPlan loadDirectPlan storeRegisterPlan storeDirectPlan portReadPlan portWritePlan portModifyPlan jumpPlan branchPlan jumpRegisterPlan branchRegisterPlan callPlan callRegisterPlan returnPlan returnConstantPlan enterBankPlan leaveBankPlan enterSpecialPlan leaveSpecialPlan
+plan-stops v i unsupported = refl
+plan-stops v i (compute o x) = refl
+plan-stops v i (compare o x) = refl
+plan-stops v i (multiply x) = refl
+plan-stops v i (bytewise o) = refl
+plan-stops v i load-index = refl
+plan-stops v i index-store = refl
+plan-stops v i index-load = refl
+plan-stops v i move = refl
+plan-stops v i (load-constant f) = refl
+plan-stops v i load-register = refl
+plan-stops v i load-direct = refl
+plan-stops v i store-register = refl
+plan-stops v i store-direct = refl
+plan-stops v i port-read = refl
+plan-stops v i port-modify = refl
+plan-stops v i (port-write x) = refl
+plan-stops v i jump = refl
+plan-stops v i (branch c) = refl
+plan-stops v i jump-register = refl
+plan-stops v i (branch-register c) = refl
+plan-stops v i call = refl
+plan-stops v i call-register = refl
+plan-stops v i return = refl
+plan-stops v i return-constant = refl
+plan-stops v i enter-bank = refl
+plan-stops v i leave-bank = refl
+plan-stops v i enter-special = refl
+plan-stops v i leave-special = refl
+
 module _ (e : Env) (s : State) where
   -- 4
   pub outside : e .config .imsize ≤ s .core .pc → stopped (s .core) 4 ≡ changeAt e s
@@ -84,13 +113,8 @@ module _ (e : Env) (s : State) where
   changed-stop q = changed ∙ rw q
 
   plan-stop : planAt e s .stop ≡ 0
-  unfolding planAt planOf comparePlan computePlan multiplyPlan loadIndexPlan indexStorePlan indexLoadPlan movePlan constantPlan loadRegisterPlan loadDirectPlan storeRegisterPlan storeDirectPlan portReadPlan portWritePlan portModifyPlan jumpPlan branchPlan jumpRegisterPlan branchRegisterPlan callPlan callRegisterPlan returnPlan returnConstantPlan enterBankPlan leaveBankPlan enterSpecialPlan leaveSpecialPlan
-  plan-stop =
-      let l = plans (viewOf e s) (partsAt e s) (factsAt e s) in
-      let k = factsAt e s .kind in
-      let zeros = column (λ (x : Change). x .stop) l in
-      let h : getD zeros k 0 < 1 = below-at 1 zeros k (omega arith) (omega arith) in
-      sym (column-at (λ (x : Change). x .stop) l k (moved (next (s .core)))) ∙ omega arith
+  unfolding planAt
+  plan-stop = plan-stops (viewOf e s) (partsAt e s) (kindAt e s)
 
   -- a stop: the step is refused with it
   pub refused-by : (x : Change) → x ≡ changeAt e s → (x .stop ≡ 0 → ⊥) → refused (x .stop) s ≡ advanceOf e s
@@ -131,6 +155,13 @@ module _ (e : Env) (s : State) where
           let z : x .stop ≡ number e s = ap (λ (y : Change). y .stop) (p ∙ changed-stop r) in
           absurd (eqb-false (number e s) 0 r (sym z ∙ h))
 
+  -- no sum of a good state's core is too large
+  pub sums-fit : Good e s → Small (s .core)
+  sums-fit g =
+      let b = bounds (e .config) (g .lawful) in
+      let m = g .core in
+      record { pc = m .pc; wp = omega arith; rx = omega arith; depth = omega arith }
+
   -- the code's sums are small, and its registers are there
   pub ready : (limit : ℕ) → Good e s → limit ≡ stackLimit (e .config .pcstack) → length (s .stack) ≡ 63 → s .core .pc < e .config .imsize →
       Fit (e .config) (s .core) (length (s .registers)) × (contextOf (s .core) < 4294967296) × (length (s .memory) ≡ e .config .dmsize) ×
@@ -140,8 +171,7 @@ module _ (e : Env) (s : State) where
   ready limit g q l h =
       let b = bounds (e .config) (g .lawful) in
       let m = g .core in
-      let small : Small (s .core) = record { pc = m .pc; wp = omega arith; rx = omega arith; depth = omega arith } in
       let fit : Fit (e .config) (s .core) (length (s .registers)) =
-      record { lawful = g .lawful; small = small; bank = omega (arith, m .bank .inside, g .registers); index = m .indices .x } in
+      record { lawful = g .lawful; small = sums-fit g; bank = omega (arith, m .bank .inside, g .registers); index = m .indices .x } in
       let context : contextOf (s .core) < 4294967296 = omega arith in
       (fit, context, g .memory, q, omega (arith, l))

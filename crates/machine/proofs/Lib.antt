@@ -1,4 +1,3 @@
-pub mod Operands
 pub mod Acting
 pub mod Deciding
 pub mod Looking

@@ -22,11 +22,13 @@ use Rattle.words.specs.Rows.{rowAt}
 use Rattle.words.specs.Words.{refusals567, answered, partsOf, readBy, readLawful}
 use Rattle.words.specs.Answers.{refusalNumber, readingOf}
 use Rattle.words.specs.Claims.{understood}
-use Rattle.words.specs.Facts.{factsOf, factsIn}
-use Rattle.words.specs.Lookup.{entryOf, entryFacts, checkAt, upperLimit, lowerLimit, waitOf, Quick, Agrees}
+use Rattle.words.specs.Facts.{factsOf}
+use Rattle.words.specs.Packed.{factsIn}
+use Rattle.words.specs.Lookup.{entryOf, entryKind, checkAt, upperLimit, lowerLimit, waitOf, Quick, Agrees}
 use Rattle.words.specs.Finding.{keyAt, fieldTable, maskOf}
 use Rattle.words.proofs.RoundTrip.{decoded}
-use Rattle.words.proofs.Lookup.{entry-facts, waited, read-row, quick, agrees}
+use Rattle.words.proofs.Checks.{entry-kind}
+use Rattle.words.proofs.Lookup.{waited, read-row, quick, agrees}
 use Rattle.words.proofs.Found.{key-field, field-at, mask-quick}
 use Rattle.arith.specs.Width.{one}
 use Rattle.state.specs.declared.Core.{Core}
@@ -34,9 +36,9 @@ use Rattle.state.specs.declared.Change.{Change}
 use Rattle.state.specs.State.{Env, State}
 use Rattle.state.specs.Cores.{stopped}
 use Rattle.state.specs.Operands.{viewOf}
-use Rattle.state.specs.Stops.{stop8, stops9to15, partsAt, factsAt, stops}
+use Rattle.state.specs.Stops.{stop8, stops9to15, partsAt, kindAt, factsAt, stops}
 use Rattle.state.specs.Step.{planAt, cyclesOf, Outcome, advanceOf}
-use Rattle.machine.specs.Act.{act, changeAt, verdictOf, Acts, Ready}
+use Rattle.machine.specs.Act.{act, changeAt, verdictOf, Acts, Ready, Small}
 use Rattle.machine.proofs.Deciding.{unless-first, not-zero, outside, refused-by}
 
 -- an answer is not both
@@ -119,7 +121,7 @@ module _ (c : Config) (w : ℕ) where
 module _ (e : Env) (s : State) (w n : ℕ) (here : w ≡ getD (e .image) (s .core .pc) 0) (n-is : n ≡ verdictOf (e .config) (s .core .mode) w)
     (h : s .core .pc < e .config .imsize) where
   inside : changeAt e s ≡
-      pick (eqb (verdictOf (e .config) (s .core .mode) (getD (e .image) (s .core .pc) 0)) 0) (act (viewOf e s) (partsAt e s) (factsAt e s))
+      pick (eqb (verdictOf (e .config) (s .core .mode) (getD (e .image) (s .core .pc) 0)) 0) (act (viewOf e s) (partsAt e s) (kindAt e s))
       (stopped (s .core) (verdictOf (e .config) (s .core .mode) (getD (e .image) (s .core .pc) 0)))
   unfolding changeAt stops refusals567 act planAt pick verdictOf
   inside =
@@ -146,19 +148,19 @@ module _ (e : Env) (s : State) (w n : ℕ) (here : w ≡ getD (e .image) (s .cor
     parts-here : partsOf w ≡ partsAt e s
     parts-here = ap partsOf here
 
-    facts-here : entryFacts (entryOf w) ≡ factsAt e s
-    facts-here =
+    kind-here : entryKind (entryOf w) ≡ kindAt e s
+    kind-here =
         let r = read-row (e .config) w (partsOf w) read in
-        ap entryFacts (sym (r .3)) ∙ (entry-facts (partsOf w .row) (r .0) (r .1) ∙ ap (λ (i : Instruction). factsOf (i .row)) parts-here)
+        ap entryKind (sym (r .3)) ∙ (entry-kind (partsOf w .row) (r .1) ∙ ap (λ (i : Instruction). rowAt (i .row) .kind) parts-here)
 
-    pub acted-here : (r : Change) (k : ℕ) → k ≡ entryOf w → Acts (viewOf e s) k w r → r ≡ changeAt e s
+    pub acted-here : (r : Change) (k : ℕ) → k ≡ entryOf w → Small (s .core) → Acts (viewOf e s) k w r → r ≡ changeAt e s
     unfolding pick
-    acted-here r k q a =
+    acted-here r k q sums a =
         let g = agrees (e .config) w (partsOf w) lawful-config small read in
-        let x : r ≡ act (viewOf e s) (partsOf w) (entryFacts k) = a .acts (partsOf w) (rw q g) in
+        let x : r ≡ act (viewOf e s) (partsOf w) (entryKind k) = a .acts (partsOf w) (rw q g) sums in
         x ∙
-        (ap (λ (f : Facts). act (viewOf e s) (partsOf w) f) (ap entryFacts q ∙ facts-here) ∙
-        (ap (λ (i : Instruction). act (viewOf e s) i (factsAt e s)) parts-here ∙ sym (inside ∙ rw (verdict-here, z))))
+        (ap (act (viewOf e s) (partsOf w)) (ap entryKind q ∙ kind-here) ∙
+        (ap (λ (i : Instruction). act (viewOf e s) i (kindAt e s)) parts-here ∙ sym (inside ∙ rw (verdict-here, z))))
 
     pub waited-here : (k t : ℕ) → k ≡ entryOf w → t ≡ 2 + waitOf (e .config) (checkAt (k % 64)) → t ≡ cyclesOf (e .config) (factsAt e s)
     unfolding cyclesOf one

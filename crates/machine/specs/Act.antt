@@ -11,20 +11,18 @@ use Rattle.laws.specs.Test.{Test, test, Holds}
 use Rattle.words.specs.declared.Config.{Config}
 use Rattle.words.specs.Configs.{lawful}
 use Rattle.words.specs.declared.Instruction.{Instruction}
-use Rattle.words.specs.declared.Facts.{Facts}
 use Rattle.state.specs.declared.Core.{Core}
 use Rattle.state.specs.declared.Change.{Change}
 use Rattle.state.specs.State.{Env, State, stackLimit}
-use Rattle.words.specs.Kinds.{compute, shift, transform, bytewise}
+use Rattle.words.specs.Kinds.{Kind}
 use Rattle.words.specs.Rows.{rowAt}
 use Rattle.words.specs.Words.{partsOf, refusals567}
-use Rattle.words.specs.Facts.{factsOf}
-use Rattle.words.specs.Lookup.{entryFacts, Agrees}
+use Rattle.words.specs.Facts.{factsFor, factsOf}
+use Rattle.words.specs.Lookup.{entryKind, Agrees}
 use Rattle.words.specs.Finding.{keyTable, fieldTable, masks, costs}
-use Rattle.arith.specs.declared.Operation.{Operation}
-use Rattle.state.specs.Cores.{next, flagged, stopped, moved, toRegister}
+use Rattle.state.specs.Cores.{stopped}
 use Rattle.state.specs.Operands.{View, specialRegister}
-use Rattle.state.specs.Plans.{alu, planOf}
+use Rattle.state.specs.Plans.{planOf}
 use Rattle.state.specs.Stops.{stop8, stops, stops9to15}
 use Rattle.state.specs.Step.{planAt}
 
@@ -34,8 +32,8 @@ unless [] m x = x
 unless (r ∷ rs) m x = pick (test (r .1)) (unless rs m x) (stopped m (r .0))
 
 -- the instruction's part of a step: stops 9 to 15, and the plan
-unfoldable pub act : View → Instruction → Facts → Change
-act v i f = unless (stops9to15 v i f) (v .core) (planOf v i f)
+unfoldable pub act : View → Instruction → Kind → Change
+act v i k = unless (stops9to15 v i (factsFor k)) (v .core) (planOf v i k)
 
 -- the step's change
 unfoldable pub changeAt : Env → State → Change
@@ -44,18 +42,6 @@ changeAt e s = unless (stops e s) (s .core) (planAt e s)
 -- the value that MOV %d,%s moves: s, or in special-register mode that of the special register that the source names
 unfoldable pub movedValue : Config → Core → ℕ → ℕ → ℕ
 movedValue c m source s = pick (eqb (m .mode) 1) (specialRegister c (m .spr7) source) s
-
--- the result of operation o on d and x to the register at cell i with its flags, and the flags alone
-unfoldable pub computed : Config → Core → ℕ → Operation → ℕ → ℕ → ℕ → Change
-computed c m bit26 o i d x =
-    toRegister (flagged (next m) bit26 (alu c o d x (m .n) .z) (alu c o d x (m .n) .n)) i (alu c o d x (m .n) .value)
-
-unfoldable pub compared : Config → Core → ℕ → Operation → ℕ → ℕ → Change
-compared c m bit26 o d x = moved (flagged (next m) bit26 (alu c o d x (m .n) .z) (alu c o d x (m .n) .n))
-
--- the kinds whose result goes to a register
-abbrev pub computing : List ℕ
-computing = compute ∷ shift ∷ transform ∷ bytewise ∷ []
 
 -- what the code asks of a core so that no sum is too large; a record in its ranges has it
 pub record Small (m : Core) : Type 0 where
@@ -88,9 +74,9 @@ verdictOf c mode w =
     let i = partsOf w in
     first-failing (refusals567 c (rowAt (i .row)) i ++ ((8, stop8 mode (i .source) (factsOf (i .row))) ∷ []))
 
--- r is what word w does, whose row's entry is e, for any instruction that has the parts of w that its action reads
+-- r is what word w does, whose row's entry is e, for any instruction that has the parts of w that its action reads, where no sum is too large
 pub record Acts (v : View) (e w : ℕ) (r : Change) : Type 0 where
-  pub acts : (i : Instruction) → Agrees (v .config .regsize) (e / 0x4000000) w i → r ≡ act v i (entryFacts e)
+  pub acts : (i : Instruction) → Agrees (v .config .regsize) (e / 0x4000000) w i → Small (v .core) → r ≡ act v i (entryKind e)
 
 -- 5 to 8 are settled at PC: none, where there is a word
 pub record Ready (c : Config) (image : List ℕ) (m : Core) : Type 0 where

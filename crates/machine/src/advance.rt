@@ -8,8 +8,7 @@ ghost use lib.ListN.{getD, length};
 ghost use Rattle.laws.specs.Choice.{pick as choice};
 ghost use Rattle.laws.specs.Test.{test, Holds};
 ghost use Rattle.words.specs.Configs.{lawful};
-ghost use Rattle.words.specs.Facts.{factsIn};
-ghost use Rattle.words.specs.Packed.{Tables};
+ghost use Rattle.words.specs.Packed.{Tables, factsIn};
 ghost use Rattle.words.specs.Lookup.{entryOf, checkAt, upperLimit, lowerLimit, waitOf};
 ghost use Rattle.words.specs.Finding.{keyTable, fieldTable, maskOf, masks as maskTable, costs as costTable};
 ghost use Rattle.state.specs.State.{env, state, stackLimit};
@@ -21,8 +20,8 @@ ghost use Rattle.machine.specs.Turns.{turned};
 use crate::Decision;
 use crate::Turn;
 use crate::exec::exec;
+use crate::memories::cell;
 use crate::memories::commit;
-use crate::values::cell;
 use state::Core;
 use words::Config;
 use words::Reading;
@@ -31,7 +30,7 @@ use words::Reading;
 fn allowed(mode: u64, source: u32, p: u64) -> bool
     ensures { λ r. ⌜ r ≡ test (stop8 mode source (factsIn p)) ⌝ }
 {
-    let m = p / 0x1000000000000;
+    let m = p / 0x1000000;
     !(mode == 1)
         | ((m / 32 % 2 == 1)
             | ((m / 64 % 2 == 1)

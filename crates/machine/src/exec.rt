@@ -8,11 +8,7 @@ ghost use Rattle.state.specs.State.{stackLimit};
 ghost use Rattle.state.specs.Operands.{view};
 ghost use Rattle.state.specs.Plans.{contextOf};
 ghost use Rattle.machine.specs.Act.{movedValue, Fit, Acts};
-use crate::plans;
-use crate::values::cell;
-use crate::values::immediate_in;
-use crate::values::special_register;
-use crate::values::value_at;
+use crate::memories::cell;
 use arith::Operation;
 use state::Change;
 use state::Core;
@@ -39,9 +35,19 @@ fn moved_value(c: Config, m: Core, source: u32, s: u32) -> u32
     ensures { λ r. ⌜ r ≡ movedValue c m source s ⌝ }
 {
     if m.mode == 1 {
-        return special_register(c, m.spr7, source);
+        return plans::special_register(c, m.spr7, source);
     }
     s
+}
+
+// The context that JSRWP stores.
+fn context_of(m: Core) -> u32
+    requires { ⌜ contextOf m < 4294967296 ⌝ }
+    ensures { λ r. ⌜ r ≡ contextOf m ⌝ }
+{
+    let bank = (m.wp / 16) as u64;
+    let back = (m.pc as u64) + 1;
+    (67108864 * bank + 2097152 * m.n + 1048576 * m.z + 65536 * m.imask + back) as u32
 }
 
 // The change that word w makes, whose row's entry is e, or its stop, 9 to 15; `limit` is the return stack's.
@@ -77,7 +83,7 @@ pub fn exec(
             w / 67108864 % 2,
             Operation::And,
             register(c, m, registers, w / 65536),
-            immediate_in(c, e, w),
+            plans::immediate_in(c, e, w),
         ),
         3 => plans::compute(
             c,
@@ -95,7 +101,7 @@ pub fn exec(
             Operation::And,
             place(c, m.wp, w / 65536),
             register(c, m, registers, w / 65536),
-            immediate_in(c, e, w),
+            plans::immediate_in(c, e, w),
         ),
         5 => plans::compute(
             c,
@@ -113,7 +119,7 @@ pub fn exec(
             Operation::Or,
             place(c, m.wp, w / 65536),
             register(c, m, registers, w / 65536),
-            immediate_in(c, e, w),
+            plans::immediate_in(c, e, w),
         ),
         7 => plans::compute(
             c,
@@ -131,7 +137,7 @@ pub fn exec(
             Operation::Xor,
             place(c, m.wp, w / 65536),
             register(c, m, registers, w / 65536),
-            immediate_in(c, e, w),
+            plans::immediate_in(c, e, w),
         ),
         9 => plans::compare(
             c,
@@ -147,7 +153,7 @@ pub fn exec(
             w / 67108864 % 2,
             Operation::Sub,
             register(c, m, registers, w / 65536),
-            immediate_in(c, e, w),
+            plans::immediate_in(c, e, w),
         ),
         11 => plans::compare(
             c,
@@ -163,7 +169,7 @@ pub fn exec(
             w / 67108864 % 2,
             Operation::Subs,
             register(c, m, registers, w / 65536),
-            immediate_in(c, e, w),
+            plans::immediate_in(c, e, w),
         ),
         13 => plans::compute(
             c,
@@ -181,7 +187,7 @@ pub fn exec(
             Operation::Sub,
             place(c, m.wp, w / 65536),
             register(c, m, registers, w / 65536),
-            immediate_in(c, e, w),
+            plans::immediate_in(c, e, w),
         ),
         15 => plans::compute(
             c,
@@ -199,7 +205,7 @@ pub fn exec(
             Operation::Subs,
             place(c, m.wp, w / 65536),
             register(c, m, registers, w / 65536),
-            immediate_in(c, e, w),
+            plans::immediate_in(c, e, w),
         ),
         17 => plans::compute(
             c,
@@ -217,7 +223,7 @@ pub fn exec(
             Operation::Add,
             place(c, m.wp, w / 65536),
             register(c, m, registers, w / 65536),
-            immediate_in(c, e, w),
+            plans::immediate_in(c, e, w),
         ),
         19 => plans::compute(
             c,
@@ -235,7 +241,7 @@ pub fn exec(
             Operation::Addc,
             place(c, m.wp, w / 65536),
             register(c, m, registers, w / 65536),
-            immediate_in(c, e, w),
+            plans::immediate_in(c, e, w),
         ),
         21 => plans::compute(
             c,
@@ -253,7 +259,7 @@ pub fn exec(
             Operation::Subc,
             place(c, m.wp, w / 65536),
             register(c, m, registers, w / 65536),
-            immediate_in(c, e, w),
+            plans::immediate_in(c, e, w),
         ),
         23 => plans::multiply(
             c,
@@ -267,7 +273,7 @@ pub fn exec(
             m,
             place(c, m.wp, w / 65536),
             register(c, m, registers, w / 65536),
-            immediate_in(c, e, w),
+            plans::immediate_in(c, e, w),
         ),
         25 => plans::compute(
             c,
@@ -416,9 +422,8 @@ pub fn exec(
             place(c, m.wp, w / 65536),
             moved_value(c, m, w & last, register(c, m, registers, w)),
         ),
-        43 => plans::assign(m, place(c, m.wp, w / 65536), immediate_in(c, e, w)),
+        43 => plans::assign(m, place(c, m.wp, w / 65536), plans::immediate_in(c, e, w)),
         44 => plans::load(
-            c,
             m,
             place(c, m.wp, w / 65536),
             register(c, m, registers, w),
@@ -427,7 +432,7 @@ pub fn exec(
         45 => plans::assign(
             m,
             place(c, m.wp, w / 65536),
-            value_at(memory, (w % 65536) as usize),
+            plans::value_at(memory, (w % 65536) as usize),
         ),
         46 => plans::store(
             c,
@@ -460,7 +465,7 @@ pub fn exec(
         51 => plans::port_write(
             m,
             register(c, m, registers, w / 65536),
-            immediate_in(c, e, w),
+            plans::immediate_in(c, e, w),
             room,
         ),
         52 => plans::jump(m, (w % 8388608) as usize),
@@ -478,7 +483,7 @@ pub fn exec(
             (register(c, m, registers, w / 65536) % 8388608) as usize,
         ),
         58 => plans::ret_constant(c, m, place(c, m.wp, w / 65536), w % 65536, stack),
-        59 => plans::enter_bank(c, m, w / 65536 % 128, w % 65536),
+        59 => plans::enter_bank(c, m, w / 65536 % 128, w % 65536, context_of(m)),
         60 => plans::ret(m, stack),
         61 => plans::leave_bank(c, m, cell(registers, m.wp)),
         62 => plans::leave_special(m),

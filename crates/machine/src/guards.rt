@@ -9,7 +9,6 @@ ghost use Rattle.laws.specs.First.{first-failing};
 ghost use Rattle.state.specs.State.{env, state};
 ghost use Rattle.state.specs.Ranges.{lengths, places, marks, positions, cells, inRanges, guards};
 use crate::memories::below_from;
-use crate::values::top_of;
 use state::Core;
 use state::Machine;
 use words::Config;
@@ -50,7 +49,7 @@ fn places_fit(c: Config, m: Core) -> bool
 fn marks_fit(c: Config, m: Core) -> bool
     ensures { λ r. ⌜ r ≡ test (marks c m) ⌝ }
 {
-    let top = top_of(c.regwidth);
+    let top = plans::top_of(c.regwidth);
     (m.n <= 1)
         & ((m.z <= 1)
             & ((m.mode <= 1)
@@ -63,7 +62,7 @@ fn marks_fit(c: Config, m: Core) -> bool
 fn positions_fit(c: Config, m: Core, inputs: usize, room: usize) -> bool
     ensures { λ r. ⌜ r ≡ test (positions c m inputs room) ⌝ }
 {
-    let top = top_of(c.regwidth);
+    let top = plans::top_of(c.regwidth);
     let limit = Machine::stack_limit(c.pcstack);
     (m.depth <= limit)
         & ((m.port < top)
@@ -73,7 +72,7 @@ fn positions_fit(c: Config, m: Core, inputs: usize, room: usize) -> bool
 fn cells_fit(c: Config, m: Core, stack: &[u32], registers: &[u32], memory: &[u32]) -> bool
     ensures { λ r. ⌜ r ≡ test (cells c (state m (now (stack .entry)) (now (registers .entry)) (now (memory .entry)) [] [])) ⌝ }
 {
-    let top = top_of(c.regwidth);
+    let top = plans::top_of(c.regwidth);
     let back = below_from(stack, 0, (c.imsize as u64) + 1);
     let clear = below_from(stack, m.depth, 1);
     let whole = below_from(registers, 0, top);

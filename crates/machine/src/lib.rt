@@ -4,10 +4,8 @@ mod advance;
 mod exec;
 mod guards;
 mod memories;
-mod plans;
 mod stepping;
 mod stretching;
-mod values;
 
 pub use guards::in_ranges;
 use state::Change;

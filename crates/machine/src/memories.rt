@@ -1,13 +1,21 @@
 // Writes to memories, and tests of whole memories.
 ghost use mathlib.Core.Path.{_≡_};
-ghost use Prim.Native.Nat.{_≤_};
-ghost use lib.ListN.{drop, length};
+ghost use Prim.Native.Nat.{_≤_, _<_};
+ghost use lib.ListN.{drop, getD, length};
 ghost use Rattle.laws.specs.Test.{below};
 ghost use Rattle.state.specs.State.{state};
 ghost use Rattle.state.specs.Step.{putOf, applied};
 ghost use Rattle.state.proofs.Apply.{Inside, Landing};
 use state::Change;
 use state::Write;
+
+// A cell that is there.
+pub fn cell(xs: &[u32], i: usize) -> u32
+    requires { ⌜ i < length (now xs) ⌝ }
+    ensures { λ r. ⌜ r ≡ getD (now (xs .entry)) i 0 ⌝ }
+{
+    xs[i]
+}
 
 // A write, if it is on.
 fn put(xs: &mut [u32], w: Write)

@@ -17,7 +17,7 @@ use Rattle.words.specs.Rows.{rowAt}
 use Rattle.words.specs.Words.{refusals567}
 use Rattle.state.specs.State.{Env, State, stackLimit}
 use Rattle.state.specs.Operands.{viewOf}
-use Rattle.state.specs.Stops.{partsAt, factsAt, stop8, stops, stops9to15}
+use Rattle.state.specs.Stops.{partsAt, kindAt, factsAt, stop8, stops, stops9to15}
 use Rattle.state.specs.Step.{Outcome, refused, number, applied, planAt, advanceOf}
 use Rattle.state.proofs.Good.{Bounds, bounds, good, valid}
 use Rattle.state.proofs.StaysValid.{stays-good}
@@ -102,7 +102,7 @@ module _ (e : Env) (certificate : List ℕ) (ok : Passes (e .config) (e .image) 
     moves =
         let n = partsAt e s .row in
         let q = planned (e .config) n (reads .0) (reads .1 .0) in
-        plan-moves (viewOf e s) (partsAt e s) n (q .0) (q .1)
+        plan-moves (viewOf e s) (partsAt e s) (kindAt e s) q
 
     abbrev Controlled : State → Type 0
     Controlled t = Control (e .config) (e .image) certificate (t .core .pc) (t .core .depth) (t .stack) (t .core .mode) (t .core .posted)

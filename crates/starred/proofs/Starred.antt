@@ -1,10 +1,10 @@
--- The starred cases hold: antt computes each of them from the definitions. Assumes nothing.
+-- The starred cases and the readings hold: antt computes each of them from the definitions. Assumes nothing.
 use Rattle.laws.specs.Choice.{pick}
 use Rattle.words.specs.Configs.{lawful}
-use Rattle.words.specs.Parts.{limit, available}
-use Rattle.words.specs.Kinds.{marks, marksOf}
+use Rattle.words.specs.Parts.{inRange, available}
+use Rattle.words.specs.Kinds.{marksOf}
 use Rattle.words.specs.Rows.{rows, rowAt}
-use Rattle.words.specs.Facts.{factsOf}
+use Rattle.words.specs.Facts.{factsFor}
 use Rattle.words.specs.Classes.{classOf, fieldOf, codeAt, choices, rowIn, rowOf}
 use Rattle.words.specs.Words.{flagIn, layoutOf, upperIn, lowerIn, valueIn, fieldsIn, spread, fits, refusals567, refusals, answered, partsBy, partsOf, readOf}
 use Rattle.arith.specs.Width.{bits, one}
@@ -19,7 +19,12 @@ use Rattle.state.specs.Plans.{contextOf, enterBankPlan, planOf}
 use Rattle.state.specs.Stops.{stops9to15, stops}
 use Rattle.state.specs.Step.{number, putOf, applied, planAt, advanceOf, stepOf}
 use Rattle.starred.specs.Cases.{StarredCases}
+use Rattle.starred.specs.Readings.{RightReadings}
 
 pub starred-cases : StarredCases
-unfolding pick lawful limit available marks marksOf rows rowAt factsOf classOf fieldOf codeAt choices rowIn rowOf flagIn layoutOf upperIn lowerIn valueIn fieldsIn spread fits refusals567 refusals answered partsBy partsOf readOf bits one addOf difference subOf signed subsOf shlOf shrOf absOf leadingZeroBits clzOf mulOf aluOf stackLimit inRanges guards contextOf enterBankPlan planOf stops9to15 stops number putOf applied planAt advanceOf stepOf
+unfolding pick lawful inRange available marksOf factsFor rows rowAt classOf fieldOf codeAt choices rowIn rowOf flagIn layoutOf upperIn lowerIn valueIn fieldsIn spread fits refusals567 refusals answered partsBy partsOf readOf bits one addOf difference subOf signed subsOf shlOf shrOf absOf leadingZeroBits clzOf mulOf aluOf stackLimit inRanges guards contextOf enterBankPlan planOf stops9to15 stops number putOf applied planAt advanceOf stepOf
 starred-cases = tt
+
+pub right-readings : RightReadings
+unfolding pick lawful inRange available marksOf factsFor rows rowAt classOf fieldOf codeAt choices rowIn rowOf flagIn layoutOf upperIn lowerIn valueIn fieldsIn spread fits refusals567 refusals answered partsBy partsOf readOf bits one absOf aluOf
+right-readings = tt

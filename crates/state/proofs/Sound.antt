@@ -2,35 +2,37 @@
 -- Assumes nothing.
 use Prim.Native.Nat.{ℕ, suc, _+_, _*_, _/_, _%_, _<_, _≤_}
 use mathlib.Core.Path.{_≡_, refl, _∙_}
-use mathlib.Core.Logic.{inl, inr}
-use mathlib.Core.List.{[], _∷_}
 use native.Mathlib.Nat.{mod-lt}
 use native.Mathlib.Numerals.{add-one}
 use native.Mathlib.Omega.{arith}
-use lib.Dec.{eqb}
+use lib.Dec.{T, eqb}
 use lib.ListN.{length, getD}
 use Rattle.laws.specs.Choice.{pick, either}
-use Rattle.laws.specs.Test.{eq→eqb, Member}
-use Rattle.laws.specs.Lists.{_also_, Placed, placed-at}
+use Rattle.laws.specs.Test.{eq→eqb, Holds}
+use Rattle.laws.specs.First.{Obeyed}
 use Rattle.laws.specs.Cells.{below-at, below-above, below-from}
 use Rattle.words.specs.declared.Config.{Config}
 use Rattle.words.specs.declared.Instruction.{Instruction}
-use Rattle.words.specs.declared.Facts.{Facts}
-use Rattle.words.specs.Kinds.{load-index, store-direct, enter-bank, leave-bank}
+use Rattle.words.specs.Parts.{register as register-part, is, inRange}
+use Rattle.words.specs.Kinds.{Operand, from-register, literal, short-literal, counted, Condition}
+use Rattle.words.specs.Kinds.{Kind, marksOf, unsupported, compute, compare, multiply, bytewise, load-index, index-store, index-load, move, load-constant, load-register, load-direct, store-register, store-direct, port-read, port-modify, port-write, jump, branch, jump-register, branch-register, call, call-register, return, return-constant, enter-bank, leave-bank, enter-special, leave-special}
+use Rattle.words.specs.Rows.{Row, rowAt}
+use Rattle.words.specs.Words.{fits}
+use Rattle.words.specs.Facts.{factsFor}
 use Rattle.arith.specs.declared.Form.{Form}
-use Rattle.arith.specs.declared.Form.the-variants.{Signed, Unsigned, Shifted}
+use Rattle.arith.specs.declared.Operation.{Operation}
 use Rattle.arith.specs.Width.{bits}
 use Rattle.arith.specs.Fits.{Fits, one-le, answer-fits, product-answer-fits, immediate-answer-fits}
 use Rattle.state.specs.declared.Core.{Core}
 use Rattle.state.specs.declared.Write.{Write}
-use Rattle.state.specs.State.{Env, State, top}
+use Rattle.state.specs.State.{Env, State, top, stackLimit}
 use Rattle.state.specs.Cores.{at, flagged, none, write, change, moved, toRegister, toMemory}
-use Rattle.state.specs.Operands.{View, viewOf, cell, register, constant, operand, operationOf, conditionMet, specialRegister}
-use Rattle.state.specs.Plans.{advanced, contextOf, registerTarget, D, S, X, M, result, comparePlan, computePlan, multiplyPlan, loadIndexPlan, indexCore, indexStorePlan, indexLoadPlan, movePlan, constantPlan, loadRegisterPlan, loadDirectPlan, storeRegisterPlan, storeDirectPlan, portReadPlan, portWritePlan, portModifyPlan, jumpPlan, branched, branchPlan, jumpRegisterPlan, branchRegisterPlan, called, callPlan, callRegisterPlan, newest, returned, returnPlan, returnConstantPlan, enterBankPlan, leaveBankPlan, enterSpecialPlan, leaveSpecialPlan, plans, planOf}
-use Rattle.state.specs.Stops.{partsAt, factsAt}
+use Rattle.state.specs.Operands.{View, viewOf, cell, register, dataAddress, constant, operand, conditionMet, specialRegister}
+use Rattle.state.specs.Plans.{advanced, contextOf, registerTarget, D, S, X, M, result, comparePlan, computePlan, multiplyPlan, loadIndexPlan, indexCore, indexStorePlan, indexLoadPlan, movePlan, constantPlan, loadRegisterPlan, loadDirectPlan, storeRegisterPlan, storeDirectPlan, portReadPlan, portWritePlan, portModifyPlan, jumpPlan, branched, branchPlan, jumpRegisterPlan, branchRegisterPlan, called, callPlan, callRegisterPlan, newest, returned, returnPlan, returnConstantPlan, enterBankPlan, leaveBankPlan, enterSpecialPlan, leaveSpecialPlan, planOf}
+use Rattle.state.specs.Stops.{stops9to15, partsAt, kindAt}
 use Rattle.state.specs.Step.{putOf, planAt}
-use Rattle.state.proofs.Good.{Bounds, bounds, top-byte, InBank, Posted, Ranged, Good}
-use Rattle.state.proofs.Told.{pushing, popping, reading, writing, assigning, storing, Told}
+use Rattle.state.proofs.Good.{Bounds, bounds, top-byte, Indices, InBank, Posted, Ranged, Good}
+use Rattle.state.proofs.Told.{counts, tells, a-register, a-target, an-entry, an-address, a-count, with-banks, Told}
 use Rattle.state.proofs.Kept.{kept-at, kept-banked, kept-indexed, kept-flagged, kept-multiplied, kept-deep, kept-masked, kept-posting, kept-taking, kept-logging}
 use Rattle.state.proofs.Apply.{Small, Inside, Landing, Sound}
 
@@ -58,8 +60,8 @@ module _ (e : Env) (s : State) (g : Good e s) where
   abbrev i : Instruction
   i = partsAt e s
 
-  abbrev f : Facts
-  f = factsAt e s
+  abbrev r : Row
+  r = rowAt (i .row)
 
   abbrev In : Core → Type 0
   In m = Ranged (e .config) (length (e .inputs)) (length (s .addresses)) m
@@ -85,22 +87,24 @@ module _ (e : Env) (s : State) (g : Good e s) where
   constant-word o x = immediate-answer-fits (c .regwidth) x o
 
   module _ (t : Told e s) where
-    pub operand-word : X v i f < top c
+    fits-value : Holds (inRange c (r .value) (i .value))
+    unfolding fits
+    fits-value = t .fit .1 .1 .1 .1
+
+    fits-source : Holds (inRange c (r .source) (i .source))
+    unfolding fits
+    fits-source = t .fit .1 .1 .1 .0
+
+    fits-destination : Holds (inRange c (r .destination) (i .destination))
+    unfolding fits
+    fits-destination = t .fit .1 .1 .0
+
+    operand-word : (x : Operand) → Holds (counts x r) → X v i x < top c
     unfolding operand
-    operand-word =
-        let x = i .value in
-        placed-at (λ k x. f .form ≡ k → x < top c)
-        (S v i f ∷ S v i f ∷ constant c Signed x ∷ constant c Unsigned x ∷ constant c Shifted x ∷ 0 ∷ x ∷ []) (f .form) 0
-        ((λ z. register-word _) also
-        (λ z. register-word _) also
-        (λ z. constant-word _ _) also
-        (λ z. constant-word _ _) also
-        (λ z. constant-word _ _) also
-        (λ z. some) also
-        (λ z. omega (arith, t .count z, top-byte c)) also
-        tt)
-        (λ z. some)
-        refl
+    operand-word from-register h = register-word _
+    operand-word (literal f) h = constant-word _ _
+    operand-word short-literal h = some
+    operand-word counted h = omega (arith, a-count c (r .value) (i .value) h fits-value, top-byte c)
 
     -- cores
 
@@ -110,10 +114,10 @@ module _ (e : Env) (s : State) (g : Good e s) where
     loud : {a : ℕ} → a < top c → Posted c 1 a
     loud h = record { mark = omega arith; word = h; none = λ z. let x : ⊥ = omega arith in absurd x }
 
-    onward : In (M v i f)
+    onward : In (M v i)
     onward = kept-posting (kept-at (g .core) (omega (arith, t .pc, law .image))) quiet
 
-    to : {a : ℕ} → a < 0x800000 → In (at (M v i f) a)
+    to : {a : ℕ} → a < 0x800000 → In (at (M v i) a)
     to h = kept-at onward h
 
     -- changes that leave the return stack
@@ -151,40 +155,40 @@ module _ (e : Env) (s : State) (g : Good e s) where
     in-bank : {r : ℕ} → r < c .regsize → cell v r < c .rmsize
     in-bank h = omega (arith, g .core .bank .inside)
 
-    assigned : Member (f .kind) assigning → cell v (i .destination) < c .rmsize
-    assigned k = in-bank (t .assigns k)
+    assigned : T (is (r .destination) register-part) → cell v (i .destination) < c .rmsize
+    assigned k = in-bank (a-register c (r .destination) (i .destination) k fits-destination)
 
     -- arithmetic
 
-    result-fits : Fits (bits (c .regwidth)) (result v i f)
-    result-fits = answer-fits (c .regwidth) (D v i f) (X v i f) (s .core .n) (operationOf (f .operation) (i .number))
+    result-fits : (o : Operation) (x : Operand) → Fits (bits (c .regwidth)) (result v i o x)
+    result-fits o x = answer-fits (c .regwidth) (D v i) (X v i x) (s .core .n) o
 
-    flagged-in : In (flagged (M v i f) (i .flag) (result v i f .z) (result v i f .n))
-    flagged-in = kept-flagged onward (i .flag) (result-fits .zero-flag) (result-fits .negative-flag)
+    flagged-in : (o : Operation) (x : Operand) → In (flagged (M v i) (i .flag) (result v i o x .z) (result v i o x .n))
+    flagged-in o x = kept-flagged onward (i .flag) (result-fits o x .zero-flag) (result-fits o x .negative-flag)
 
-    compare-sound : Sound e s (comparePlan v i f)
+    compare-sound : (o : Operation) (x : Operand) → Sound e s (comparePlan v i o x)
     unfolding comparePlan
-    compare-sound = moved-sound flagged-in refl
+    compare-sound o x = moved-sound (flagged-in o x) refl
 
-    compute-sound : Member (f .kind) assigning → Sound e s (computePlan v i f)
+    compute-sound : (o : Operation) (x : Operand) → T (is (r .destination) register-part) → Sound e s (computePlan v i o x)
     unfolding computePlan
-    compute-sound k = register-sound flagged-in refl (result-fits .word) (assigned k)
+    compute-sound o x k = register-sound (flagged-in o x) refl (result-fits o x .word) (assigned k)
 
-    multiply-sound : Member (f .kind) assigning → Sound e s (multiplyPlan v i f)
+    multiply-sound : (x : Operand) → T (is (r .destination) register-part) → Sound e s (multiplyPlan v i x)
     unfolding multiplyPlan
-    multiply-sound k =
-        let p = product-answer-fits (c .regwidth) (D v i f) (X v i f) in
+    multiply-sound x k =
+        let p = product-answer-fits (c .regwidth) (D v i) (X v i x) in
         register-sound (kept-multiplied onward (record { word = p .high-word; none = λ z. p .high-none (omega (arith, law .same-width)) })) refl
         (p .word)
         (assigned k)
 
     -- indices
 
-    load-index-sound : f .kind ≡ load-index → Sound e s (loadIndexPlan v i f)
+    load-index-sound : Indices c (i .source) (i .destination) → Sound e s (loadIndexPlan v i)
     unfolding loadIndexPlan
-    load-index-sound k = moved-sound (kept-flagged (kept-indexed onward (t .indices k)) (i .flag) (one-le _) (omega arith)) refl
+    load-index-sound k = moved-sound (kept-flagged (kept-indexed onward k) (i .flag) (one-le _) (omega arith)) refl
 
-    index-in : In (indexCore v i f)
+    index-in : In (indexCore v i)
     unfolding advanced
     index-in = kept-flagged (kept-indexed onward (record { x = around; y = g .core .indices .y })) (i .flag) (one-le _) (omega arith)
       where
@@ -194,84 +198,83 @@ module _ (e : Env) (s : State) (g : Good e s) where
             (λ u. let n : s .core .rx + 1 ≡ c .regsize → ⊥ = λ q. u (eq→eqb (s .core .rx + 1) (c .regsize) q) in
             omega (arith, g .core .indices .x))
 
-    index-store-sound : Member (f .kind) storing → Sound e s (indexStorePlan v i f)
+    index-store-sound : dataAddress (D v i) < c .dmsize → Sound e s (indexStorePlan v i)
     unfolding indexStorePlan advanced
-    index-store-sound k = memory-sound index-in refl (register-word (s .core .rx)) (t .stores k)
+    index-store-sound k = memory-sound index-in refl (register-word (s .core .rx)) k
 
-    index-load-sound : Sound e s (indexLoadPlan v i f)
+    index-load-sound : Sound e s (indexLoadPlan v i)
     unfolding indexLoadPlan advanced
     index-load-sound = register-sound index-in refl (memory-word _) (in-bank (g .core .indices .x))
 
     -- moves
 
-    move-sound : Member (f .kind) assigning → Sound e s (movePlan v i f)
+    move-sound : T (is (r .destination) register-part) → Sound e s (movePlan v i)
     unfolding movePlan specialRegister
     move-sound k =
         register-sound onward refl
-        (either (λ x. x < top c) (eqb (s .core .mode) 1) (specialRegister c (s .core .spr7) (i .source)) (S v i f) (λ u. cut _)
+        (either (λ x. x < top c) (eqb (s .core .mode) 1) (specialRegister c (s .core .spr7) (i .source)) (S v i) (λ u. cut _)
         (λ u. register-word (i .source)))
         (assigned k)
 
-    constant-sound : Member (f .kind) assigning → Sound e s (constantPlan v i f)
+    constant-sound : (f : Form) → T (is (r .destination) register-part) → Sound e s (constantPlan v i f)
     unfolding constantPlan
-    constant-sound k = register-sound onward refl operand-word (assigned k)
+    constant-sound f k = register-sound onward refl (constant-word _ _) (assigned k)
 
-    load-register-sound : Member (f .kind) assigning → Sound e s (loadRegisterPlan v i f)
+    load-register-sound : T (is (r .destination) register-part) → Sound e s (loadRegisterPlan v i)
     unfolding loadRegisterPlan
     load-register-sound k = register-sound onward refl (memory-word _) (assigned k)
 
-    load-direct-sound : Member (f .kind) assigning → Sound e s (loadDirectPlan v i f)
+    load-direct-sound : T (is (r .destination) register-part) → Sound e s (loadDirectPlan v i)
     unfolding loadDirectPlan
     load-direct-sound k = register-sound onward refl (memory-word _) (assigned k)
 
-    store-register-sound : Member (f .kind) storing → Sound e s (storeRegisterPlan v i f)
+    store-register-sound : dataAddress (D v i) < c .dmsize → Sound e s (storeRegisterPlan v i)
     unfolding storeRegisterPlan
-    store-register-sound k = memory-sound onward refl (register-word (i .source)) (t .stores k)
+    store-register-sound k = memory-sound onward refl (register-word (i .source)) k
 
-    store-direct-sound : f .kind ≡ store-direct → Sound e s (storeDirectPlan v i f)
+    store-direct-sound : i .value < c .dmsize → Sound e s (storeDirectPlan v i)
     unfolding storeDirectPlan
-    store-direct-sound k = memory-sound onward refl (register-word (i .destination)) (t .stores-direct k)
+    store-direct-sound k = memory-sound onward refl (register-word (i .destination)) k
 
     -- ports
 
-    port-read-sound : Member (f .kind) reading → Member (f .kind) assigning → Sound e s (portReadPlan v i f)
+    port-read-sound : s .core .taken < length (e .inputs) → T (is (r .destination) register-part) → Sound e s (portReadPlan v i)
     unfolding portReadPlan
-    port-read-sound k l = register-sound (kept-taking onward (t .reads k)) refl (cut _) (assigned l)
+    port-read-sound k l = register-sound (kept-taking onward k) refl (cut _) (assigned l)
 
-    port-write-sound : Member (f .kind) writing → Sound e s (portWritePlan v i f)
+    port-write-sound : (x : Operand) → s .core .logged < length (s .addresses) → Sound e s (portWritePlan v i x)
     unfolding portWritePlan
-    port-write-sound k =
-        plain (kept-posting (kept-logging onward (t .writes k)) (loud (register-word (i .destination)))) refl no-write nowhere no-write nowhere
-        (landed (t .writes k))
-        (landed (t .writes k))
+    port-write-sound x k =
+        plain (kept-posting (kept-logging onward k) (loud (register-word (i .destination)))) refl no-write nowhere no-write nowhere
+        (landed k)
+        (landed k)
 
-    port-modify-sound : Member (f .kind) reading → Member (f .kind) writing → Member (f .kind) assigning → Sound e s (portModifyPlan v i f)
+    port-modify-sound : s .core .taken < length (e .inputs) → s .core .logged < length (s .addresses) → T (is (r .destination) register-part) → Sound e s (portModifyPlan v i)
     unfolding portModifyPlan
     port-modify-sound k l a =
-        plain (kept-posting (kept-logging (kept-taking onward (t .reads k)) (t .writes l)) (loud (register-word (i .source)))) refl (wrote (cut _))
+        plain (kept-posting (kept-logging (kept-taking onward k) l) (loud (register-word (i .source)))) refl (wrote (cut _))
         (landed (assigned a))
         no-write
         nowhere
-        (landed (t .writes l))
-        (landed (t .writes l))
+        (landed l)
+        (landed l)
 
     -- control
 
-    register-target : registerTarget (D v i f) < 0x800000
+    register-target : registerTarget (D v i) < 0x800000
     register-target = omega arith
 
-    jump-sound : {a : ℕ} → a < 0x800000 → Sound e s (moved (at (M v i f) a))
+    jump-sound : {a : ℕ} → a < 0x800000 → Sound e s (moved (at (M v i) a))
     jump-sound h = moved-sound (to h) refl
 
-    branch-sound : (a : ℕ) → a < 0x800000 → Sound e s (moved (branched v i f a))
-    branch-sound a h =
-        either (λ m. Sound e s (moved m)) (conditionMet (f .condition) (s .core .n) (s .core .z)) (at (M v i f) a) (M v i f) (λ u. jump-sound h)
+    branch-sound : (k : Condition) (a : ℕ) → a < 0x800000 → Sound e s (moved (branched v i k a))
+    branch-sound k a h =
+        either (λ m. Sound e s (moved m)) (conditionMet k (s .core .n) (s .core .z)) (at (M v i) a) (M v i) (λ u. jump-sound h)
         (λ u. moved-sound onward refl)
 
-    call-sound : (a : ℕ) → Member (f .kind) pushing → a < 0x800000 → Sound e s (called v i f a)
+    call-sound : (a : ℕ) → s .core .depth < stackLimit (c .pcstack) → a < 0x800000 → Sound e s (called v i a)
     unfolding putOf pick
-    call-sound a k h =
-        let d = t .pushes k in
+    call-sound a d h =
         record {
           core = kept-deep (to h) (omega arith);
           reg = no-write;
@@ -283,20 +286,19 @@ module _ (e : Env) (s : State) (g : Good e s) where
         }
 
     return-sound : {reg : Write} →
-        Member (f .kind) popping →
+        0 < s .core .depth →
         Small (top c) reg →
         Inside (c .rmsize) reg →
-        Sound e s (change (returned v i f) reg none (write (newest v i f) 0) none none)
+        Sound e s (change (returned v i) reg none (write (newest v i) 0) none none)
     unfolding putOf pick
-    return-sound k r l =
-        let d = t .pops k in
-        let n = newest v i f in
+    return-sound d q l =
+        let n = newest v i in
         let u : suc n ≡ s .core .depth = omega arith in
         record {
           core =
               kept-deep (to (omega (arith, below-at (c .imsize + 1) (s .stack) n (omega arith) (g .addresses), law .image)))
               (omega (arith, g .core .depth));
-          reg = r;
+          reg = q;
           dm = no-write;
           stack = wrote (omega arith);
           landing =
@@ -312,77 +314,79 @@ module _ (e : Env) (s : State) (g : Good e s) where
 
     -- banks and modes
 
-    context-word : f .kind ≡ enter-bank → contextOf (s .core) < top c
+    context-word : c .regsize < c .rmsize → contextOf (s .core) < top c
     unfolding contextOf
     context-word k =
-        let w : bits (c .regwidth) ≡ 32 = law .same-width ∙ law .banks-wide (t .enters k .banks) in
+        let w : bits (c .regwidth) ≡ 32 = law .same-width ∙ law .banks-wide k in
         let p : s .core .wp / 16 < 64 = omega (arith, g .core .bank .inside, law .registers-some, law .banks) in
         rw w (omega (arith, g .core .flags .negative, g .core .flags .zero, g .core .masks .now, t .pc, law .image))
 
     in-unit : (u : ℕ) → 16 * u + c .regsize ≤ c .rmsize → InBank c (16 * u)
     in-unit u h = record { whole = omega arith; inside = h }
 
-    enter-bank-sound : f .kind ≡ enter-bank → Sound e s (enterBankPlan v i f)
+    enter-bank-sound : i .value < 65536 → 16 * i .destination + c .regsize ≤ c .rmsize → c .regsize < c .rmsize → Sound e s (enterBankPlan v i)
     unfolding enterBankPlan
-    enter-bank-sound k =
-        let h = t .enters k in
-        register-sound (kept-banked (to (omega (arith, h .address))) (in-unit (i .destination) (h .bank))) refl (context-word k)
-        (omega (arith, h .bank, law .registers-some))
+    enter-bank-sound a b k =
+        register-sound (kept-banked (to (omega arith)) (in-unit (i .destination) b)) refl (context-word k)
+        (omega (arith, b, law .registers-some))
 
-    leave-bank-sound : f .kind ≡ leave-bank → Sound e s (leaveBankPlan v i f)
+    leave-bank-sound : 16 * (register v 0 / 0x4000000) + c .regsize ≤ c .rmsize → Sound e s (leaveBankPlan v i)
     unfolding leaveBankPlan
     leave-bank-sound k =
         let m = g .core .masks in
         moved-sound
-        (kept-masked (kept-flagged (kept-banked (to (omega arith)) (in-unit _ (t .leaves k))) 0 (omega arith) (omega arith))
+        (kept-masked (kept-flagged (kept-banked (to (omega arith)) (in-unit _ k)) 0 (omega arith) (omega arith))
         (record { now = omega arith; kept = m .kept; special = m .special }))
         refl
 
-    enter-special-sound : Sound e s (enterSpecialPlan v i f)
+    enter-special-sound : Sound e s (enterSpecialPlan v i)
     unfolding enterSpecialPlan
     enter-special-sound = moved-sound (kept-masked onward (record { now = omega arith; kept = g .core .masks .now; special = omega arith })) refl
 
-    leave-special-sound : Sound e s (leaveSpecialPlan v i f)
+    leave-special-sound : Sound e s (leaveSpecialPlan v i)
     unfolding leaveSpecialPlan
     leave-special-sound =
         moved-sound (kept-masked onward (record { now = g .core .masks .kept; kept = g .core .masks .kept; special = omega arith })) refl
 
     -- whatever the kind
+    by-kind : (k : Kind) → Holds (tells k r) → Obeyed (stops9to15 v i (factsFor k)) → Sound e s (planOf v i k)
+    unfolding tells stops9to15 factsFor marksOf planOf jumpPlan branchPlan jumpRegisterPlan branchRegisterPlan callPlan callRegisterPlan returnPlan returnConstantPlan
+    by-kind unsupported p q = moved-sound onward refl
+    by-kind (compute o x) p q = compute-sound o x (p .0)
+    by-kind (compare o x) p q = compare-sound o x
+    by-kind (multiply x) p q = multiply-sound x (p .0)
+    by-kind (bytewise o) p q = compute-sound _ _ p
+    by-kind load-index p q =
+        load-index-sound
+        (record {
+          x = a-register c (r .source) (i .source) (p .1) fits-source;
+          y = a-register c (r .destination) (i .destination) (p .0) fits-destination;
+        })
+    by-kind index-store p q = index-store-sound (q .1 .1 .1 .1 .0 .1 tt)
+    by-kind index-load p q = index-load-sound
+    by-kind move p q = move-sound p
+    by-kind (load-constant f) p q = constant-sound f p
+    by-kind load-register p q = load-register-sound p
+    by-kind load-direct p q = load-direct-sound p
+    by-kind store-register p q = store-register-sound (q .1 .1 .1 .1 .0 .1 tt)
+    by-kind store-direct p q = store-direct-sound (an-address c (r .value) (i .value) p fits-value)
+    by-kind port-read p q = port-read-sound (q .1 .1 .1 .1 .1 .0 tt) p
+    by-kind port-modify p q = port-modify-sound (q .1 .1 .1 .1 .1 .0 tt) (q .1 .1 .1 .1 .1 .1 .0 tt) p
+    by-kind (port-write x) p q = port-write-sound x (q .1 .1 .1 .1 .1 .1 .0 tt)
+    by-kind jump p q = jump-sound (a-target c (r .value) (i .value) p fits-value)
+    by-kind (branch k) p q = branch-sound k (i .value) (a-target c (r .value) (i .value) p fits-value)
+    by-kind jump-register p q = jump-sound register-target
+    by-kind (branch-register k) p q = branch-sound k (registerTarget (D v i)) register-target
+    by-kind call p q = call-sound (i .value) (q .1 .0 tt) (a-target c (r .value) (i .value) p fits-value)
+    by-kind call-register p q = call-sound (registerTarget (D v i)) (q .1 .0 tt) register-target
+    by-kind return p q = return-sound (q .1 .1 .0 tt) no-write nowhere
+    by-kind return-constant p q = return-sound (q .1 .1 .0 tt) (wrote (constant-word _ _)) (landed (assigned p))
+    by-kind enter-bank p q =
+        enter-bank-sound (an-entry c (r .value) (i .value) (p .0) fits-value) (q .1 .1 .1 .0 .0 tt) (with-banks c (r .option) (p .1) (t .option))
+    by-kind leave-bank p q = leave-bank-sound (q .1 .1 .1 .0 .1 tt)
+    by-kind enter-special p q = enter-special-sound
+    by-kind leave-special p q = leave-special-sound
+
     pub plan-sound : Sound e s (planAt e s)
-    unfolding planAt planOf jumpPlan branchPlan jumpRegisterPlan branchRegisterPlan callPlan callRegisterPlan returnPlan returnConstantPlan
-    plan-sound = placed-at (λ k x. f .kind ≡ k → Sound e s x) (plans v i f) (f .kind) (moved (M v i f)) by-kind (λ k. moved-sound onward refl) refl
-      where
-        by-kind : Placed (λ k x. f .kind ≡ k → Sound e s x) 0 (plans v i f)
-        by-kind =
-            (λ k. moved-sound onward refl) also
-            (λ k. compute-sound (inl k)) also
-            (λ k. compare-sound) also
-            (λ k. multiply-sound (inr (inl k))) also
-            (λ k. compute-sound (inr (inr (inl k)))) also
-            (λ k. compute-sound (inr (inr (inr (inl k))))) also
-            (λ k. compute-sound (inr (inr (inr (inr (inl k)))))) also
-            load-index-sound also
-            (λ k. index-store-sound (inl k)) also
-            (λ k. index-load-sound) also
-            (λ k. move-sound (inr (inr (inr (inr (inr (inl k))))))) also
-            (λ k. constant-sound (inr (inr (inr (inr (inr (inr (inl k)))))))) also
-            (λ k. load-register-sound (inr (inr (inr (inr (inr (inr (inr (inl k))))))))) also
-            (λ k. load-direct-sound (inr (inr (inr (inr (inr (inr (inr (inr (inl k)))))))))) also
-            (λ k. store-register-sound (inr k)) also
-            store-direct-sound also
-            (λ k. port-read-sound (inl k) (inr (inr (inr (inr (inr (inr (inr (inr (inr (inl k))))))))))) also
-            (λ k. port-modify-sound (inr k) (inl k) (inr (inr (inr (inr (inr (inr (inr (inr (inr (inr (inl k)))))))))))) also
-            (λ k. port-write-sound (inr k)) also
-            (λ k. jump-sound (t .target (inl k))) also
-            (λ k. branch-sound (i .value) (t .target (inr (inl k)))) also
-            (λ k. jump-sound register-target) also
-            (λ k. branch-sound (registerTarget (D v i f)) register-target) also
-            (λ k. call-sound (i .value) (inl k) (t .target (inr (inr k)))) also
-            (λ k. call-sound (registerTarget (D v i f)) (inr k) register-target) also
-            (λ k. return-sound (inl k) no-write nowhere) also
-            (λ k. return-sound (inr k) (wrote (constant-word _ _)) (landed (assigned (inr (inr (inr (inr (inr (inr (inr (inr (inr (inr (inr k)))))))))))))) also
-            enter-bank-sound also
-            leave-bank-sound also
-            (λ k. enter-special-sound) also
-            (λ k. leave-special-sound) also
-            tt
+    unfolding planAt
+    plan-sound = by-kind (kindAt e s) (t .parts) (t .stops)

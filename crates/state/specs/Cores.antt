@@ -1,53 +1,49 @@
 -- The core after one small change: what a step is put together from. The methods of Core hand these back.
 use Prim.Native.Nat.{ℕ, _+_, _-_, _*_}
 use lib.Dec.{eqb}
-use Rattle.laws.specs.Choice.{pick}
+use Rattle.laws.specs.Choice.{pick, decided}
 use Rattle.state.specs.declared.Core.{Core}
 use Rattle.state.specs.declared.Write.{Write}
 use Rattle.state.specs.declared.Change.{Change}
-use mathlib.Core.Bool.{true, false}
+use mathlib.Core.Bool.{Bool, true, false}
 
--- PC
-abbrev pub at : Core → ℕ → Core
-at m p =
+-- the parts of a core, and a core with one of them changed
+pub data Place : Type 0 where
+  PC WP RX RY N Z SPR7 DEPTH IMASK SAVED MODE POSTED PORT TAKEN LOGGED : Place
+  deriving Discrete as Place-discrete
+
+abbrev swapped : Bool → ℕ → ℕ → ℕ
+swapped true x y = x
+swapped false x y = y
+
+infixl 5 _but_≔_
+abbrev pub _but_≔_ : Core → Place → ℕ → Core
+m but p ≔ x =
+    let here : Place → ℕ → ℕ = λ q y. swapped (decided (Place-discrete p q)) x y in
     record {
-      pc = p;
-      wp = m .wp;
-      rx = m .rx;
-      ry = m .ry;
-      n = m .n;
-      z = m .z;
-      spr7 = m .spr7;
-      depth = m .depth;
-      imask = m .imask;
-      saved = m .saved;
-      mode = m .mode;
-      posted = m .posted;
-      port = m .port;
-      taken = m .taken;
-      logged = m .logged;
+      pc = here PC (m .pc);
+      wp = here WP (m .wp);
+      rx = here RX (m .rx);
+      ry = here RY (m .ry);
+      n = here N (m .n);
+      z = here Z (m .z);
+      spr7 = here SPR7 (m .spr7);
+      depth = here DEPTH (m .depth);
+      imask = here IMASK (m .imask);
+      saved = here SAVED (m .saved);
+      mode = here MODE (m .mode);
+      posted = here POSTED (m .posted);
+      port = here PORT (m .port);
+      taken = here TAKEN (m .taken);
+      logged = here LOGGED (m .logged);
     }
+
+abbrev pub at : Core → ℕ → Core
+at m p = m but PC ≔ p
 
 -- the posted mark and address
 abbrev pub posting : Core → ℕ → ℕ → Core
-posting m mark address =
-    record {
-      pc = m .pc;
-      wp = m .wp;
-      rx = m .rx;
-      ry = m .ry;
-      n = m .n;
-      z = m .z;
-      spr7 = m .spr7;
-      depth = m .depth;
-      imask = m .imask;
-      saved = m .saved;
-      mode = m .mode;
-      posted = mark;
-      port = address;
-      taken = m .taken;
-      logged = m .logged;
-    }
+posting m mark address = m but POSTED ≔ mark but PORT ≔ address
 
 -- control goes to the next address, and nothing is posted any more: only a port write posts anew
 abbrev pub next : Core → Core
@@ -55,150 +51,31 @@ next m = posting (at m (m .pc + 1)) 0 0
 
 -- Z and N, where bit 26 is 0: "bit 26 = 0 updates flags"
 abbrev pub flagged : Core → ℕ → ℕ → ℕ → Core
-flagged m bit26 z n =
-    record {
-      pc = m .pc;
-      wp = m .wp;
-      rx = m .rx;
-      ry = m .ry;
-      n = pick (eqb bit26 0) n (m .n);
-      z = pick (eqb bit26 0) z (m .z);
-      spr7 = m .spr7;
-      depth = m .depth;
-      imask = m .imask;
-      saved = m .saved;
-      mode = m .mode;
-      posted = m .posted;
-      port = m .port;
-      taken = m .taken;
-      logged = m .logged;
-    }
+flagged m bit26 z n = m but N ≔ pick (eqb bit26 0) n (m .n) but Z ≔ pick (eqb bit26 0) z (m .z)
 
 -- RX and RY
 abbrev pub indexed : Core → ℕ → ℕ → Core
-indexed m x y =
-    record {
-      pc = m .pc;
-      wp = m .wp;
-      rx = x;
-      ry = y;
-      n = m .n;
-      z = m .z;
-      spr7 = m .spr7;
-      depth = m .depth;
-      imask = m .imask;
-      saved = m .saved;
-      mode = m .mode;
-      posted = m .posted;
-      port = m .port;
-      taken = m .taken;
-      logged = m .logged;
-    }
+indexed m x y = m but RX ≔ x but RY ≔ y
 
 -- SPR7
 abbrev pub multiplied : Core → ℕ → Core
-multiplied m high =
-    record {
-      pc = m .pc;
-      wp = m .wp;
-      rx = m .rx;
-      ry = m .ry;
-      n = m .n;
-      z = m .z;
-      spr7 = high;
-      depth = m .depth;
-      imask = m .imask;
-      saved = m .saved;
-      mode = m .mode;
-      posted = m .posted;
-      port = m .port;
-      taken = m .taken;
-      logged = m .logged;
-    }
+multiplied m high = m but SPR7 ≔ high
 
 -- how many addresses the return stack holds
 abbrev pub deep : Core → ℕ → Core
-deep m d =
-    record {
-      pc = m .pc;
-      wp = m .wp;
-      rx = m .rx;
-      ry = m .ry;
-      n = m .n;
-      z = m .z;
-      spr7 = m .spr7;
-      depth = d;
-      imask = m .imask;
-      saved = m .saved;
-      mode = m .mode;
-      posted = m .posted;
-      port = m .port;
-      taken = m .taken;
-      logged = m .logged;
-    }
+deep m d = m but DEPTH ≔ d
 
 -- the masks and the mode
 abbrev pub masked : Core → ℕ → ℕ → ℕ → Core
-masked m imask saved mode =
-    record {
-      pc = m .pc;
-      wp = m .wp;
-      rx = m .rx;
-      ry = m .ry;
-      n = m .n;
-      z = m .z;
-      spr7 = m .spr7;
-      depth = m .depth;
-      imask = imask;
-      saved = saved;
-      mode = mode;
-      posted = m .posted;
-      port = m .port;
-      taken = m .taken;
-      logged = m .logged;
-    }
+masked m imask saved mode = m but IMASK ≔ imask but SAVED ≔ saved but MODE ≔ mode
 
 -- WP
 abbrev pub banked : Core → ℕ → Core
-banked m w =
-    record {
-      pc = m .pc;
-      wp = w;
-      rx = m .rx;
-      ry = m .ry;
-      n = m .n;
-      z = m .z;
-      spr7 = m .spr7;
-      depth = m .depth;
-      imask = m .imask;
-      saved = m .saved;
-      mode = m .mode;
-      posted = m .posted;
-      port = m .port;
-      taken = m .taken;
-      logged = m .logged;
-    }
+banked m w = m but WP ≔ w
 
 -- the positions in the inputs and in the log
 abbrev pub positioned : Core → ℕ → ℕ → Core
-positioned m taken logged =
-    record {
-      pc = m .pc;
-      wp = m .wp;
-      rx = m .rx;
-      ry = m .ry;
-      n = m .n;
-      z = m .z;
-      spr7 = m .spr7;
-      depth = m .depth;
-      imask = m .imask;
-      saved = m .saved;
-      mode = m .mode;
-      posted = m .posted;
-      port = m .port;
-      taken = taken;
-      logged = logged;
-    }
+positioned m taken logged = m but TAKEN ≔ taken but LOGGED ≔ logged
 
 -- one more input taken, one more place of the log filled
 abbrev pub taking : Core → Core

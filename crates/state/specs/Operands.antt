@@ -1,17 +1,15 @@
 -- What an instruction reads: registers of the active bank, immediates, special registers, the condition of a jump.
 use Prim.Native.Nat.{ℕ, _+_, _*_, _/_, _%_}
-use mathlib.Core.Bool.{Bool, true, false, not, _&&_, _||_}
+use mathlib.Core.Bool.{Bool, false, not, _&&_, _||_}
 use mathlib.Core.List.{List, [], _∷_}
 use lib.Dec.{leb, eqb}
 use lib.ListN.{length, getD}
 use Rattle.laws.specs.Choice.{pick}
 use Rattle.words.specs.declared.Config.{Config}
 use Rattle.words.specs.declared.Instruction.{Instruction}
-use Rattle.words.specs.declared.Facts.{Facts}
+use Rattle.words.specs.Kinds.{Operand, from-register, literal, short-literal, counted}
+use Rattle.words.specs.Kinds.{Condition, Z, NZ, GT, LT, GE, LE, NIRQ, B0, B1, NB0, NB1, BIO}
 use Rattle.arith.specs.declared.Form.{Form}
-use Rattle.arith.specs.declared.Form.the-variants.{Signed, Unsigned, Shifted}
-use Rattle.arith.specs.declared.Operation.{Operation}
-use Rattle.arith.specs.declared.Operation.the-variants.{And, Or, Xor, Add, Addc, Sub, Subc, Subs, Shl, Shr, Shra, Rotl, Rotr, Shl16, Abs, Clz, Bst, Bld, Blds}
 use Rattle.arith.specs.Width.{bits, one}
 use Rattle.arith.specs.Immediates.{immediateOf}
 use Rattle.state.specs.declared.Core.{Core}
@@ -49,49 +47,27 @@ dataAddress x = x % 65536
 abbrev pub constant : Config → Form → ℕ → ℕ
 constant c f x = immediateOf (bits (c .regwidth)) f (x % 65536)
 
--- the operand by its form (words, Kinds): none, register, the three immediates, short immediate (unsupported), shift count
-unfoldable pub operand : Config → ℕ → ℕ → ℕ → ℕ
-operand c form source value =
-    getD (source ∷ source ∷ constant c Signed value ∷ constant c Unsigned value ∷ constant c Shifted value ∷ 0 ∷ value ∷ []) form 0
+-- the second operand; the short immediate is unsupported
+unfoldable pub operand : Config → Operand → ℕ → ℕ → ℕ
+operand c from-register source value = source
+operand c (literal f) source value = constant c f value
+operand c short-literal source value = 0
+operand c counted source value = value
 
--- the ALU operation by its number (words, Kinds); k is the byte number. TST, CMP and CMPS are AND, SUB and SUBS that write no register.
-unfoldable pub operations : ℕ → List Operation
-operations k =
-    And ∷  -- none
-    And ∷  -- TST
-    And ∷  -- AND
-    Or ∷  -- OR
-    Xor ∷  -- XOR
-    Sub ∷  -- CMP
-    Subs ∷  -- CMPS
-    Sub ∷  -- SUB
-    Subs ∷  -- SUBS
-    Add ∷  -- ADD
-    Addc ∷  -- ADDC
-    Subc ∷  -- SUBC
-    And ∷  -- MUL, a kind of its own
-    Shr ∷  -- SHR
-    Shra ∷  -- SHRA
-    Shl ∷  -- SHL
-    Rotr ∷  -- ROTR
-    Rotl ∷  -- ROTL
-    Shl16 ∷  -- SHL16
-    Abs ∷  -- ABS
-    Clz ∷  -- CLZ
-    Bst k ∷  -- BST
-    Bld k ∷  -- BLD
-    Blds k ∷  -- BLDS
-    []
-
-unfoldable pub operationOf : ℕ → ℕ → Operation
-operationOf o k = getD (operations k) o And
-
--- "GT: neither Z nor N; LT: N; GE: not N; LE: Z or N. BIO is never taken." Conditions 7 to 11 are unsupported.
-unfoldable pub conditionMet : ℕ → ℕ → ℕ → Bool
-conditionMet k n z =
-    let Z = eqb z 1 in
-    let N = eqb n 1 in
-    getD (true ∷ Z ∷ not Z ∷ (not Z && not N) ∷ N ∷ not N ∷ (Z || N) ∷ []) k false
+-- "GT: neither Z nor N; LT: N; GE: not N; LE: Z or N. BIO is never taken." The conditions from NIRQ to NB1 are unsupported.
+unfoldable pub conditionMet : Condition → ℕ → ℕ → Bool
+conditionMet Z n z = eqb z 1
+conditionMet NZ n z = not (eqb z 1)
+conditionMet GT n z = not (eqb z 1) && not (eqb n 1)
+conditionMet LT n z = eqb n 1
+conditionMet GE n z = not (eqb n 1)
+conditionMet LE n z = eqb z 1 || eqb n 1
+conditionMet NIRQ n z = false
+conditionMet B0 n z = false
+conditionMet B1 n z = false
+conditionMet NB0 n z = false
+conditionMet NB1 n z = false
+conditionMet BIO n z = false
 
 -- log2 of a power of two up to 32,768, "log2 of size 0 is 0": how many of 2, 4, 8, .. are at most n
 abbrev pub powers : List ℕ

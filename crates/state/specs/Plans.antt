@@ -1,12 +1,13 @@
 -- What an instruction changes, by its kind: document 01, 'One step'. Used where no stop is given.
 use Prim.Native.Nat.{ℕ, _+_, _-_, _*_, _/_, _%_}
-use mathlib.Core.List.{List, [], _∷_}
 use lib.Dec.{leb, eqb}
 use lib.ListN.{getD}
 use Rattle.laws.specs.Choice.{pick}
 use Rattle.words.specs.declared.Config.{Config}
 use Rattle.words.specs.declared.Instruction.{Instruction}
-use Rattle.words.specs.declared.Facts.{Facts}
+use Rattle.words.specs.Kinds.{Operand, from-register, Condition}
+use Rattle.words.specs.Kinds.{Kind, unsupported, compute, compare, multiply, bytewise, load-index, index-store, index-load, move, load-constant, load-register, load-direct, store-register, store-direct, port-read, port-modify, port-write, jump, branch, jump-register, branch-register, call, call-register, return, return-constant, enter-bank, leave-bank, enter-special, leave-special}
+use Rattle.arith.specs.declared.Form.{Form}
 use Rattle.arith.specs.declared.Form.the-variants.{Signed}
 use Rattle.arith.specs.declared.Word.{Word}
 use Rattle.arith.specs.declared.Product.{Product}
@@ -18,7 +19,7 @@ use Rattle.state.specs.declared.Core.{Core}
 use Rattle.state.specs.declared.Change.{Change}
 use Rattle.state.specs.State.{top}
 use Rattle.state.specs.Cores.{at, posting, next, flagged, indexed, multiplied, deep, masked, banked, taking, logging, none, write, change, moved, toRegister, toMemory, toStack, toLog}
-use Rattle.state.specs.Operands.{View, cell, register, dataAddress, constant, operand, operationOf, conditionMet, specialRegister}
+use Rattle.state.specs.Operands.{View, cell, register, dataAddress, constant, operand, conditionMet, specialRegister}
 
 -- the ALU at width W, of words that are taken mod 2^W and N mod 2: registers of a record in its ranges are so already
 abbrev pub alu : Config → Operation → ℕ → ℕ → ℕ → Word
@@ -43,7 +44,7 @@ contextOf m = 0x4000000 * (m .wp / 16) + 0x200000 * m .n + 0x100000 * m .z + 655
 abbrev pub registerTarget : ℕ → ℕ
 registerTarget x = x % 0x800000
 
-module _ (v : View) (i : Instruction) (f : Facts) where
+module _ (v : View) (i : Instruction) where
   -- the values of the destination and source registers
   abbrev pub D : ℕ
   D = register v (i .destination)
@@ -51,28 +52,29 @@ module _ (v : View) (i : Instruction) (f : Facts) where
   abbrev pub S : ℕ
   S = register v (i .source)
 
-  -- the operand by its form
-  abbrev pub X : ℕ
-  X = operand (v .config) (f .form) S (i .value)
+  -- the second operand
+  abbrev pub X : Operand → ℕ
+  X x = operand (v .config) x S (i .value)
 
   -- the core at the next address
   abbrev pub M : Core
   M = next (v .core)
 
-  abbrev pub result : Word
-  result = alu (v .config) (operationOf (f .operation) (i .number)) D X (v .core .n)
+  abbrev pub result : Operation → Operand → Word
+  result o x = alu (v .config) o D (X x) (v .core .n)
 
   -- TST, CMP, CMPS "write no register"
-  unfoldable pub comparePlan : Change
-  comparePlan = moved (flagged M (i .flag) (result .z) (result .n))
+  unfoldable pub comparePlan : Operation → Operand → Change
+  comparePlan o x = moved (flagged M (i .flag) (result o x .z) (result o x .n))
 
-  -- TST to SUBC, shifts, level 1 and bytes: the result to %d
-  unfoldable pub computePlan : Change
-  computePlan = toRegister (flagged M (i .flag) (result .z) (result .n)) (cell v (i .destination)) (result .value)
+  -- AND to SUBC, shifts, level 1 and bytes: the result to %d
+  unfoldable pub computePlan : Operation → Operand → Change
+  computePlan o x = toRegister (flagged M (i .flag) (result o x .z) (result o x .n)) (cell v (i .destination)) (result o x .value)
 
   -- "MUL: .. no flag; SPR7 takes product bits W+15 to W if W ≤ 16, else 0"
-  unfoldable pub multiplyPlan : Change
-  multiplyPlan = toRegister (multiplied M (product (v .config) D X .high)) (cell v (i .destination)) (product (v .config) D X .value)
+  unfoldable pub multiplyPlan : Operand → Change
+  multiplyPlan x =
+      toRegister (multiplied M (product (v .config) D (X x) .high)) (cell v (i .destination)) (product (v .config) D (X x) .value)
 
   -- "LDYX: RY from 22-16, RX from 6-0, Z if equal, N 0."
   unfoldable pub loadIndexPlan : Change
@@ -96,8 +98,8 @@ module _ (v : View) (i : Instruction) (f : Facts) where
   movePlan =
       toRegister M (cell v (i .destination)) (pick (eqb (v .core .mode) 1) (specialRegister (v .config) (v .core .spr7) (i .source)) S)
 
-  unfoldable pub constantPlan : Change
-  constantPlan = toRegister M (cell v (i .destination)) X
+  unfoldable pub constantPlan : Form → Change
+  constantPlan f = toRegister M (cell v (i .destination)) (constant (v .config) f (i .value))
 
   unfoldable pub loadRegisterPlan : Change
   loadRegisterPlan = toRegister M (cell v (i .destination)) (getD (v .memory) (dataAddress S) 0)
@@ -120,8 +122,8 @@ module _ (v : View) (i : Instruction) (f : Facts) where
   portReadPlan = toRegister (taking M) (cell v (i .destination)) reading
 
   -- "each write logs address and value", and is posted
-  unfoldable pub portWritePlan : Change
-  portWritePlan = toLog (posting (logging M) 1 D) (v .core .logged) D X
+  unfoldable pub portWritePlan : Operand → Change
+  portWritePlan x = toLog (posting (logging M) 1 D) (v .core .logged) D (X x)
 
   -- "IORMW gives %d the reading, logs it with MSbit set, and counts as a read and as a posted write."
   unfoldable pub portModifyPlan : Change
@@ -134,17 +136,17 @@ module _ (v : View) (i : Instruction) (f : Facts) where
   jumpPlan = moved (at M (i .value))
 
   -- a jump that is not taken goes to the next address
-  abbrev pub branched : ℕ → Core
-  branched target = pick (conditionMet (f .condition) (v .core .n) (v .core .z)) (at M target) M
+  abbrev pub branched : Condition → ℕ → Core
+  branched k target = pick (conditionMet k (v .core .n) (v .core .z)) (at M target) M
 
-  unfoldable pub branchPlan : Change
-  branchPlan = moved (branched (i .value))
+  unfoldable pub branchPlan : Condition → Change
+  branchPlan k = moved (branched k (i .value))
 
   unfoldable pub jumpRegisterPlan : Change
   jumpRegisterPlan = moved (at M (registerTarget D))
 
-  unfoldable pub branchRegisterPlan : Change
-  branchRegisterPlan = moved (branched (registerTarget D))
+  unfoldable pub branchRegisterPlan : Condition → Change
+  branchRegisterPlan k = moved (branched k (registerTarget D))
 
   -- "JSR saves PC+1."
   abbrev pub called : ℕ → Change
@@ -194,41 +196,33 @@ module _ (v : View) (i : Instruction) (f : Facts) where
   unfoldable pub leaveSpecialPlan : Change
   leaveSpecialPlan = moved (masked M (v .core .saved) (v .core .saved) 0)
 
-  -- by kind, in the order of words' Kinds
-  abbrev pub plans : List Change
-  plans =
-      moved M ∷  -- unsupported: no word of this kind can be read
-      computePlan ∷
-      comparePlan ∷
-      multiplyPlan ∷
-      computePlan ∷  -- shift
-      computePlan ∷  -- transform
-      computePlan ∷  -- bytewise
-      loadIndexPlan ∷
-      indexStorePlan ∷
-      indexLoadPlan ∷
-      movePlan ∷
-      constantPlan ∷
-      loadRegisterPlan ∷
-      loadDirectPlan ∷
-      storeRegisterPlan ∷
-      storeDirectPlan ∷
-      portReadPlan ∷
-      portModifyPlan ∷
-      portWritePlan ∷
-      jumpPlan ∷
-      branchPlan ∷
-      jumpRegisterPlan ∷
-      branchRegisterPlan ∷
-      callPlan ∷
-      callRegisterPlan ∷
-      returnPlan ∷
-      returnConstantPlan ∷
-      enterBankPlan ∷
-      leaveBankPlan ∷
-      enterSpecialPlan ∷
-      leaveSpecialPlan ∷
-      []
-
-  unfoldable pub planOf : Change
-  planOf = getD plans (f .kind) (moved M)
+  unfoldable pub planOf : Kind → Change
+  planOf unsupported = moved M  -- no word of this kind can be read
+  planOf (compute o x) = computePlan o x
+  planOf (compare o x) = comparePlan o x
+  planOf (multiply x) = multiplyPlan x
+  planOf (bytewise o) = computePlan (o (i .number)) from-register
+  planOf load-index = loadIndexPlan
+  planOf index-store = indexStorePlan
+  planOf index-load = indexLoadPlan
+  planOf move = movePlan
+  planOf (load-constant f) = constantPlan f
+  planOf load-register = loadRegisterPlan
+  planOf load-direct = loadDirectPlan
+  planOf store-register = storeRegisterPlan
+  planOf store-direct = storeDirectPlan
+  planOf port-read = portReadPlan
+  planOf port-modify = portModifyPlan
+  planOf (port-write x) = portWritePlan x
+  planOf jump = jumpPlan
+  planOf (branch k) = branchPlan k
+  planOf jump-register = jumpRegisterPlan
+  planOf (branch-register k) = branchRegisterPlan k
+  planOf call = callPlan
+  planOf call-register = callRegisterPlan
+  planOf return = returnPlan
+  planOf return-constant = returnConstantPlan
+  planOf enter-bank = enterBankPlan
+  planOf leave-bank = leaveBankPlan
+  planOf enter-special = enterSpecialPlan
+  planOf leave-special = leaveSpecialPlan

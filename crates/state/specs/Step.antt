@@ -15,7 +15,7 @@ use Rattle.state.specs.State.{Env, State, state}
 use Rattle.state.specs.Ranges.{guards}
 use Rattle.state.specs.Operands.{viewOf}
 use Rattle.state.specs.Plans.{planOf}
-use Rattle.state.specs.Stops.{partsAt, factsAt, stops}
+use Rattle.state.specs.Stops.{partsAt, kindAt, factsAt, stops}
 
 -- the number that stops a step of a state that 1, 2 and 3 let pass; 0 for none
 unfoldable pub number : Env → State → ℕ
@@ -33,7 +33,7 @@ applied x s =
 
 -- what the instruction at PC changes
 unfoldable pub planAt : Env → State → Change
-planAt e s = planOf (viewOf e s) (partsAt e s) (factsAt e s)
+planAt e s = planOf (viewOf e s) (partsAt e s) (kindAt e s)
 
 -- "Cycles: 2; 3 for a port read or IORMW; 3 for a data memory read (MOVX from it included) with DM_PIPE not 0."
 unfoldable pub cyclesOf : Config → Facts → ℕ

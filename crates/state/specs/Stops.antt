@@ -11,7 +11,8 @@ use Rattle.words.specs.declared.Instruction.{Instruction}
 use Rattle.words.specs.declared.Facts.{Facts}
 use Rattle.words.specs.Rows.{rowAt}
 use Rattle.words.specs.Words.{partsOf, refusals567}
-use Rattle.words.specs.Facts.{factsOf}
+use Rattle.words.specs.Kinds.{Kind}
+use Rattle.words.specs.Facts.{factsFor}
 use Rattle.state.specs.declared.Core.{Core}
 use Rattle.state.specs.declared.Change.{Change}
 use Rattle.state.specs.State.{Env, State, stackLimit}
@@ -62,12 +63,15 @@ module _ (v : View) (i : Instruction) (f : Facts) where
   unfoldable pub stops9to15 : List (ℕ × Test)
   stops9to15 = (9, stop9) ∷ (10, stop10) ∷ (11, stop11) ∷ (12, stop12) ∷ (13, stop13) ∷ (14, stop14) ∷ (15, stop15) ∷ []
 
--- the instruction at PC, as far as it can be read, and its facts
+-- the instruction at PC, as far as it can be read, its kind, and what is asked of that
 abbrev pub partsAt : Env → State → Instruction
 partsAt e s = partsOf (getD (e .image) (s .core .pc) 0)
 
+abbrev pub kindAt : Env → State → Kind
+kindAt e s = rowAt (partsAt e s .row) .kind
+
 abbrev pub factsAt : Env → State → Facts
-factsAt e s = factsOf (partsAt e s .row)
+factsAt e s = factsFor (kindAt e s)
 
 -- 4 "PC ≥ IM_SIZE"; 5, 6, 7 as for reading; 8 to 15
 unfoldable pub stops : Env → State → List (ℕ × Test)

@@ -14,12 +14,12 @@ use Rattle.laws.specs.Lists.{column, column-at}
 use Rattle.laws.specs.Table.{every, at-every, values, value-at}
 use Rattle.words.specs.declared.Config.{Config}
 use Rattle.words.specs.declared.Instruction.{Instruction}
-use Rattle.words.specs.Parts.{flag}
+use Rattle.words.specs.Parts.{flag, is}
 use Rattle.words.specs.Rows.{Row, rows, noRow, rowCount, rowAt}
 use Rattle.text.specs.Strings.{none, updates, strings, string}
 use Rattle.text.specs.Styles.{Style, style, bare, styles, styleAt}
 use Rattle.text.specs.Digits.{spelled, digit, hex, unpacked}
-use Rattle.text.specs.Texts.{shown, operandText, numberWidth, conditionMark, flagMark, textOf}
+use Rattle.text.specs.Texts.{shown, operandText, numberWidth, conditionMark, endMark, flagMark, textOf}
 use Rattle.text.specs.Packed.{packedFrom, stringTable, sizeTable, endingOf, packedStyle, styleTable, Lent, Named, pieceText, formText, pieceLent, lastMark, formIn, formLent}
 use Rattle.text.specs.declared.forms.Piece.{Piece}
 use Rattle.text.specs.declared.forms.Form.{Form}
@@ -84,18 +84,18 @@ packs-back s r p =
     same (p / 0x1000000000 % 16) (s .shape .second .width) and
     same (p / 0x10000000000 % 16) (s .shape .second .part) and
     same (p / 0x100000000000 % 256) (endingOf r) and
-    same (p / 0x10000000000000 % 16) (pick (eqb (r .flag) flag) 1 0) and
-    if? (eqb (r .flag) flag) (same (conditionMark (r .condition)) none)
+    same (p / 0x10000000000000 % 16) (pick (is (r .flag) flag) 1 0) and
+    if? (is (r .flag) flag) (same (endMark (r .kind)) none)
 
 backAt : ℕ → Test
 backAt n = packs-back (styleAt n) (rowAt n) (packedStyle (styleAt n) (rowAt n))
 
 all-back : T (every rowCount (λ n. test (backAt n)))
-unfolding backAt rows rowAt styles styleAt packedStyle numberWidth conditionMark endingOf pick
+unfolding backAt rows rowAt styles styleAt packedStyle numberWidth conditionMark endMark endingOf pick
 all-back = tt
 
 none-back : T (test (packs-back (style none bare) noRow 0))
-unfolding numberWidth conditionMark endingOf pick
+unfolding numberWidth conditionMark endMark endingOf pick
 none-back = tt
 
 past-rows : (n : ℕ) → rowCount ≤ n → rowAt n ≡ noRow
@@ -130,7 +130,7 @@ abbrev names-below : ℕ → ℕ → Test
 names-below k p = less (p % 256) k and less (p / 0x1000 % 256) k and less (p / 0x10000000 % 256) k and less (p / 0x100000000000 % 256) k
 
 all-named : T (every rowCount (λ n. test (names-below 69 (packedStyle (styleAt n) (rowAt n)))))
-unfolding rows rowAt styles styleAt packedStyle numberWidth conditionMark endingOf pick
+unfolding rows rowAt styles styleAt packedStyle numberWidth conditionMark endMark endingOf pick
 all-named = tt
 
 named : (n : ℕ) → Holds (names-below 69 (getD styleTable n 0))
@@ -181,10 +181,10 @@ last-by true true mark h = rw (h tt)
 last-by true false mark h = rw (h tt)
 last-by false z mark h = sym (append-nil (string mark))
 
-last-is : (r : Row) (bit : ℕ) → (T (eqb (r .flag) flag) → conditionMark (r .condition) ≡ none) →
-    string (lastMark (pick (eqb (r .flag) flag) 1 0) (endingOf r) bit) ≡ string (conditionMark (r .condition)) ++ string (flagMark (r .flag) bit)
+last-is : (r : Row) (bit : ℕ) → (T (is (r .flag) flag) → endMark (r .kind) ≡ none) →
+    string (lastMark (pick (is (r .flag) flag) 1 0) (endingOf r) bit) ≡ string (endMark (r .kind)) ++ string (flagMark (r .flag) bit)
 unfolding lastMark endingOf flagMark
-last-is r bit h = last-by (eqb (r .flag) flag) (eqb bit 0) (conditionMark (r .condition)) h
+last-is r bit h = last-by (is (r .flag) flag) (eqb bit 0) (endMark (r .kind)) h
 
 -- as the code picks it
 pub last-none : (flagged mark bit : ℕ) → eqb flagged 1 && not (eqb bit 0) ≡ true → none ≡ lastMark flagged mark bit

@@ -9,12 +9,12 @@ use Rattle.laws.specs.Choice.{pick}
 use Rattle.laws.specs.Lists.{column}
 use Rattle.laws.specs.Table.{values}
 use Rattle.words.specs.declared.Instruction.{Instruction}
-use Rattle.words.specs.Parts.{flag}
+use Rattle.words.specs.Parts.{flag, is}
 use Rattle.words.specs.Rows.{Row, rowCount, rowAt}
 use Rattle.text.specs.Strings.{none, updates, strings}
 use Rattle.text.specs.Styles.{Style, styleAt}
 use Rattle.text.specs.Digits.{hex, unpacked}
-use Rattle.text.specs.Texts.{shown, numberWidth, conditionMark}
+use Rattle.text.specs.Texts.{shown, numberWidth, endMark}
 use Rattle.text.specs.declared.forms.Piece.{Piece}
 use Rattle.text.specs.declared.forms.Form.{Form}
 
@@ -31,7 +31,7 @@ sizeTable = column length strings
 
 -- what stands last in a row's texts: ",S", where the flags are updated, or the condition
 unfoldable pub endingOf : Row → ℕ
-endingOf r = pick (eqb (r .flag) flag) updates (conditionMark (r .condition))
+endingOf r = pick (is (r .flag) flag) updates (endMark (r .kind))
 
 -- hex digits from the right: two for the name, one for the width of the byte number; for each operand two for the mark, its width and its part; two for
 -- what stands last; 1 where that depends on bit 26
@@ -46,7 +46,7 @@ packedStyle s r =
     0x1000000000 * s .shape .second .width +
     0x10000000000 * s .shape .second .part +
     0x100000000000 * endingOf r +
-    0x10000000000000 * pick (eqb (r .flag) flag) 1 0
+    0x10000000000000 * pick (is (r .flag) flag) 1 0
 
 unfoldable pub styleTable : List ℕ
 styleTable = values (λ n. packedStyle (styleAt n) (rowAt n)) 0 rowCount

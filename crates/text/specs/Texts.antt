@@ -10,7 +10,9 @@ use Rattle.laws.specs.Test.{most}
 use Rattle.laws.specs.First.{first-failing}
 use Rattle.words.specs.declared.Config.{Config}
 use Rattle.words.specs.declared.Instruction.{Instruction}
-use Rattle.words.specs.Parts.{flag, byte}
+use Rattle.words.specs.Parts.{Part, flag, byte, is}
+use Rattle.words.specs.Kinds.{Condition, Z, NZ, GT, LT, GE, LE, NIRQ, B0, B1, NB0, NB1, BIO}
+use Rattle.words.specs.Kinds.{Kind, unsupported, compute, compare, multiply, bytewise, load-index, index-store, index-load, move, load-constant, load-register, load-direct, store-register, store-direct, port-read, port-modify, port-write, jump, branch, jump-register, branch-register, call, call-register, return, return-constant, enter-bank, leave-bank, enter-special, leave-special}
 use Rattle.words.specs.Rows.{rowAt}
 use Rattle.words.specs.Words.{Read, readLawful, readOf}
 use Rattle.text.specs.Letters.{ask}
@@ -27,17 +29,59 @@ unfoldable pub operandText : Operand → Instruction → List ℕ
 operandText o i = string (o .mark) ++ hex (o .width) (shown (o .part) i)
 
 -- "byte number at the name's end": one digit, where the number part p holds one
-unfoldable pub numberWidth : ℕ → ℕ
-numberWidth p = pick (eqb p byte) 1 0
+unfoldable pub numberWidth : Part → ℕ
+numberWidth p = pick (is p byte) 1 0
 
--- the conditions of JMP, by bits 26-23; always prints none
-unfoldable pub conditionMark : ℕ → ℕ
-conditionMark k =
-    getD (none ∷ if-Z ∷ if-NZ ∷ if-GT ∷ if-LT ∷ if-GE ∷ if-LE ∷ if-NIRQ ∷ if-B0 ∷ if-B1 ∷ if-NB0 ∷ if-NB1 ∷ if-BIO ∷ []) k none
+-- the conditions of JMP
+unfoldable pub conditionMark : Condition → ℕ
+conditionMark Z = if-Z
+conditionMark NZ = if-NZ
+conditionMark GT = if-GT
+conditionMark LT = if-LT
+conditionMark GE = if-GE
+conditionMark LE = if-LE
+conditionMark NIRQ = if-NIRQ
+conditionMark B0 = if-B0
+conditionMark B1 = if-B1
+conditionMark NB0 = if-NB0
+conditionMark NB1 = if-NB1
+conditionMark BIO = if-BIO
+
+-- what is printed after the operands: the condition, where there is one
+unfoldable pub endMark : Kind → ℕ
+endMark unsupported = none
+endMark (compute o x) = none
+endMark (compare o x) = none
+endMark (multiply x) = none
+endMark (bytewise o) = none
+endMark load-index = none
+endMark index-store = none
+endMark index-load = none
+endMark move = none
+endMark (load-constant g) = none
+endMark load-register = none
+endMark load-direct = none
+endMark store-register = none
+endMark store-direct = none
+endMark port-read = none
+endMark port-modify = none
+endMark (port-write x) = none
+endMark jump = none
+endMark (branch b) = conditionMark b
+endMark jump-register = none
+endMark (branch-register b) = conditionMark b
+endMark call = none
+endMark call-register = none
+endMark return = none
+endMark return-constant = none
+endMark enter-bank = none
+endMark leave-bank = none
+endMark enter-special = none
+endMark leave-special = none
 
 -- '",S" when bit 26 of an ALU word is 0': p is what the flag part holds
-unfoldable pub flagMark : ℕ → ℕ → ℕ
-flagMark p bit = pick (eqb p flag && eqb bit 0) updates none
+unfoldable pub flagMark : Part → ℕ → ℕ
+flagMark p bit = pick (is p flag && eqb bit 0) updates none
 
 -- The text of an instruction: name, byte number, operands, condition, flags. One style of operands so far, whatever the configuration c.
 unfoldable pub textOf : Config → Instruction → List ℕ
@@ -48,7 +92,7 @@ textOf c i =
     hex (numberWidth (r .number)) (i .number) ++ (
     operandText (s .shape .first) i ++ (
     operandText (s .shape .second) i ++ (
-    string (conditionMark (r .condition)) ++
+    string (endMark (r .kind)) ++
     string (flagMark (r .flag) (i .flag))))))
 
 -- "instruction text longer than 20 bytes" (23)

@@ -16,6 +16,8 @@ use Rattle.words.specs.declared.Reading.{Reading}
 use Rattle.words.specs.declared.Writing.{Writing}
 use Rattle.words.specs.Configs.{lawful}
 use Rattle.words.specs.Parts.{available}
+use Rattle.words.specs.Kinds.{unsupported}
+use Rattle.words.specs.Codes.{optionAt}
 use Rattle.words.specs.Rows.{rowCount, rowAt}
 use Rattle.words.specs.Classes.{none, rowOf}
 use Rattle.words.specs.Words.{fieldsIn, spread, gather, wordFrom, fits, refusals567, refusals, zeros, answered, partsBy, partsOf, readBy, readLawful, readOf, written, wordOf, writeLawful, writeOf}
@@ -28,8 +30,8 @@ use Rattle.words.proofs.Lent.{row-lent}
 -- reading by lent tables, step by step
 pub by-tables : (cs bs ps : List ℕ) (c : Config) (w cl n base p : ℕ) (s : Fields) (i : Instruction) (there fit : Bool) →
     cl ≡ getD cs (w / 0x800000) none → n ≡ rowOf cl (w % 0x800000) → base ≡ getD bs n 0 → p ≡ getD ps n noPacked →
-    s ≡ fieldsIn n (unpack base p) (w / 0x800000) (w % 0x800000) → i ≡ spread s → there ≡ test (available c (p / 0x100000 % 16)) →
-    fit ≡ test (fits c (unpack 0 p) i) → judged (ltb n rowCount) there fit i ≡ readLent cs bs ps c w
+    s ≡ fieldsIn n (unpack base p unsupported) (w / 0x800000) (w % 0x800000) → i ≡ spread s → there ≡ test (available c (optionAt (p / 0x100000 % 16))) →
+    fit ≡ test (fits c (unpack 0 p unsupported) i) → judged (ltb n rowCount) there fit i ≡ readLent cs bs ps c w
 unfolding judged readLent readBy partsBy rowLent refusals567 spread fieldsIn fits
 by-tables cs bs ps c w cl n base p s i there fit a b d e f g h k = rw (k, h, g, f, d, e, b, a)
 
@@ -63,7 +65,7 @@ writes c i r e = record { answer = e; back = λ w q. write-then-read c i w (sym 
 
 -- the verdict on parts to be written, by the packed row
 pub verdict : (c : Config) (i : Instruction) (p : ℕ) (there fit : Bool) → p ≡ getD rowTable (i .row) noPacked →
-    there ≡ test (available c (p / 0x100000 % 16)) → fit ≡ test (fits c (unpack 0 p) i) →
+    there ≡ test (available c (optionAt (p / 0x100000 % 16))) → fit ≡ test (fits c (unpack 0 p unsupported) i) →
     first-failing (refusals567 c (rowAt (i .row)) i) ≡ pick (ltb (i .row) rowCount) (pick there (pick fit 0 7) 6) 5
 unfolding refusals567 rowLent fits
 verdict c i p there fit e h k = rw (k, h, e, ← row-lent (i .row))

@@ -1,19 +1,23 @@
 -- Computed tests over the rows: an entry says what its row says, its check has the row's limits, and its action reads what the row holds.
 -- Assumes nothing.
 use Prim.Native.Nat.{ℕ, _/_, _%_, _<_}
-use mathlib.Core.Path.{_≡_, refl}
+use mathlib.Core.Path.{_≡_, refl, ap, sym, _∙_}
 use mathlib.Core.Bool.{Bool, true, false, not, _&&_}
-use lib.Dec.{T, eqb, eqb→eq, not-T}
-use Rattle.laws.specs.Choice.{pick}
+use lib.Dec.{T, eqb, not-T}
+use lib.ListN.{getD}
+use Rattle.laws.specs.Choice.{pick, pick-no, decided-yes}
+use Rattle.laws.specs.Lists.{column, column-at}
 use Rattle.laws.specs.Test.{Test, less, same, yes?, if?, _and_, _or_, test, Holds, holds, imp}
 use Rattle.laws.specs.Table.{every, at-every}
-use Rattle.words.specs.Parts.{unused, flag, byte, register, target, never}
-use Rattle.words.specs.Kinds.{marks, marksOf}
-use Rattle.words.specs.Rows.{Row, rows, rowCount, rowAt}
+use Rattle.words.specs.Parts.{Part, Part-discrete, unused, flag, byte, register, target, is}
+use Rattle.words.specs.Parts.{Option, Option-discrete, never, needs}
+use Rattle.words.specs.Kinds.{Kind, unsupported, marksOf}
+use Rattle.words.specs.Rows.{Row, rows, noRow, rowCount, rowAt}
+use Rattle.words.specs.Codes.{formAt, conditionAt}
 use Rattle.words.specs.Words.{Layout, registers, upper-value, whole, layoutOf, upperIn, lowerIn, valueIn}
-use Rattle.words.specs.Facts.{factsOf}
-use Rattle.words.specs.Actions.{flag′, destination′, source′, number′, value′, target′, unit′, actions, anything, input, load, Check, checks, entries}
-use Rattle.words.specs.Lookup.{entryAt, actionAt, immediateIn, formOf, checkAt}
+use Rattle.words.specs.Facts.{factsFor, factsOf}
+use Rattle.words.specs.Actions.{flag′, destination′, source′, number′, value′, target′, unit′, actions, Side, anything, part, input, load, Check, checks, entries}
+use Rattle.words.specs.Lookup.{entryAt, actionAt, entryKind, checkAt}
 use Rattle.words.proofs.Keys.{key, code}
 
 -- Entries
@@ -28,63 +32,84 @@ alike-is true false t = absurd t
 alike-is false true t = absurd t
 alike-is false false t = refl
 
--- entry e has the action, the condition and the form of row n, and waits for what its kind does
-abbrev pub entry-like : ℕ → ℕ → Test
-entry-like n e =
-    let r = rowAt n in
-    let a = e / 0x4000000 in
-    let k = checkAt (e % 64) in
-    same (actionAt a .kind) (r .kind) and
-    same (actionAt a .operation) (r .operation) and
-    same (formOf a e) (r .form) and
-    same (e / 256 % 16) (r .condition) and
-    yes? (alike (eqb (k .wait) input) (factsOf n .input)) and
-    yes? (alike (eqb (k .wait) load) (factsOf n .load))
+-- what is equal by its test
 
--- so it is where some configuration has the row
-abbrev entry-right : ℕ → Test
-entry-right n = if? (not (eqb (rowAt n .option) never)) (entry-like n (entryAt n))
+pub is-it : (p q : Part) → T (is p q) → p ≡ q
+is-it p q t = decided-yes (Part-discrete p q) t
 
-all-entries : T (every rowCount (λ n. test (entry-right n)))
-unfolding pick rows rowAt marks marksOf factsOf entries entryAt actions actionAt immediateIn formOf checks checkAt
-all-entries = tt
+pub needs-it : (o q : Option) → T (needs o q) → o ≡ q
+needs-it o q t = decided-yes (Option-discrete o q) t
 
-pub entry-at : (n : ℕ) → n < rowCount → (rowAt n .option ≡ never → ⊥) → Holds (entry-like n (entryAt n))
-entry-at n h o =
-    holds (entry-right n) (at-every rowCount (λ m. test (entry-right m)) n all-entries h)
-    (not-T (eqb (rowAt n .option) never) (λ t. o (eqb→eq _ _ t)))
+pub isnt-it : (o q : Option) → (o ≡ q → ⊥) → T (not (needs o q))
+isnt-it o q h = not-T (needs o q) (λ t. h (needs-it o q t))
+
+-- the kind of a row that some configuration has
+abbrev supported : Row → Kind
+supported r = pick (needs (r .option) never) unsupported (r .kind)
+
+all-kinds : column entryKind entries ≡ column supported rows
+unfolding pick rows entries actions actionAt formAt conditionAt
+all-kinds = refl
+
+-- it is that of its entry
+entry-supported : (n : ℕ) → entryKind (entryAt n) ≡ supported (rowAt n)
+unfolding pick rowAt entryAt actions actionAt
+entry-supported n =
+    sym (column-at entryKind entries n 0) ∙ (ap (λ l. getD l n unsupported) all-kinds ∙ column-at supported rows n noRow)
+
+pub entry-kind : (n : ℕ) → (rowAt n .option ≡ never → ⊥) → entryKind (entryAt n) ≡ rowAt n .kind
+entry-kind n o =
+    entry-supported n ∙ pick-no (needs (rowAt n .option) never) unsupported (rowAt n .kind) (λ t. o (needs-it _ _ t))
+
+-- the check of an entry waits for what the kind does
+abbrev pub waits-like : ℕ → Test
+waits-like n =
+    let k = checkAt (entryAt n % 64) in
+    yes? (alike (eqb (k .wait) input) (factsOf n .input)) and yes? (alike (eqb (k .wait) load) (factsOf n .load))
+
+abbrev waits-right : ℕ → Test
+waits-right n = if? (not (needs (rowAt n .option) never)) (waits-like n)
+
+all-waits : T (every rowCount (λ n. test (waits-right n)))
+unfolding rows rowAt marksOf factsFor entries entryAt checks checkAt
+all-waits = tt
+
+pub waits-at : (n : ℕ) → n < rowCount → (rowAt n .option ≡ never → ⊥) → Holds (waits-like n)
+waits-at n h o =
+    holds (waits-right n) (at-every rowCount (λ m. test (waits-right m)) n all-waits h) (isnt-it (rowAt n .option) never o)
 
 -- Checks
+
+-- the side of a check is what a part holds
+abbrev pub side-is : Side → Part → Bool
+side-is anything p = false
+side-is (part q) p = is q p
+
+pub side-it : (s : Side) (p : Part) → T (side-is s p) → s ≡ part p
+side-it anything p t = absurd t
+side-it (part q) p t = ap part (is-it q p t)
 
 -- the check's limits are those of the parts that stand in bits 22-16 and 15-0
 abbrev pub sides-like : Layout → Row → Check → Test
 sides-like registers r k =
-    same (k .upper) (r .destination) and
-    same (k .lower) (r .source) and
-    less (r .destination) anything and
-    less (r .source) anything and
-    same (r .value) unused
+    yes? (side-is (k .upper) (r .destination)) and yes? (side-is (k .lower) (r .source)) and yes? (is (r .value) unused)
 sides-like upper-value r k =
-    same (k .upper) (r .destination) and
-    same (k .lower) (r .value) and
-    less (r .destination) anything and
-    less (r .value) anything and
-    same (r .source) unused
+    yes? (side-is (k .upper) (r .destination)) and yes? (side-is (k .lower) (r .value)) and yes? (is (r .source) unused)
 sides-like whole r k =
-    same (r .destination) unused and same (r .source) unused and same (r .value) target
+    yes? (is (r .destination) unused) and yes? (is (r .source) unused) and yes? (is (r .value) target)
 
 abbrev pub check-like : Row → Check → Test
 check-like r k =
     same (k .code) (code r) and
-    (same (r .flag) unused or same (r .flag) flag) and
-    (same (r .number) unused or same (r .number) byte and same (k .bytes) 1) and
+    (yes? (is (r .flag) unused) or yes? (is (r .flag) flag)) and
+    (yes? (is (r .number) unused) or yes? (is (r .number) byte) and same (k .bytes) 1) and
     sides-like (layoutOf (r .value)) r k
 
 abbrev pub check-right : ℕ → Test
 check-right n =
     let r = rowAt n in
     let k = checkAt (entryAt n % 64) in
-    same (k .option) (r .option) and if? (not (eqb (r .option) never)) (check-like r k)
+    yes? (needs (k .option) (r .option)) and if? (not (needs (r .option) never)) (check-like r k)
 
 all-checks : T (every rowCount (λ n. test (check-right n)))
 unfolding pick rows rowAt layoutOf entries entryAt checks checkAt
@@ -147,17 +172,17 @@ used m u = eqb (u / m % 2) 1
 abbrev pub uses-like : Row → ℕ → Test
 uses-like r u =
     let y = layoutOf (r .value) in
-    if? (used flag′ u) (same (r .flag) flag) and
-    if? (used destination′ u) (same (r .destination) register and yes? (has-upper y) and less (code r) 65536) and
-    if? (used source′ u) (same (r .source) register and yes? (has-lower y) and same (code r % 256) 0) and
-    if? (used number′ u) (same (r .number) byte and same (key r % 4) 0) and
+    if? (used flag′ u) (yes? (is (r .flag) flag)) and
+    if? (used destination′ u) (yes? (is (r .destination) register) and yes? (has-upper y) and less (code r) 65536) and
+    if? (used source′ u) (yes? (is (r .source) register) and yes? (has-lower y) and same (code r % 256) 0) and
+    if? (used number′ u) (yes? (is (r .number) byte) and same (key r % 4) 0) and
     if? (used value′ u) (yes? (has-value y) and same (code r % 65536) 0) and
     if? (used target′ u) (yes? (is-whole y) and same (code r) 0) and
     if? (used unit′ u) (yes? (has-upper y) and less (code r) 65536)
 
 abbrev uses-right : ℕ → Test
 uses-right n =
-    if? (not (eqb (rowAt n .option) never)) (uses-like (rowAt n) (actionAt (entryAt n / 0x4000000) .uses))
+    if? (not (needs (rowAt n .option) never)) (uses-like (rowAt n) (actionAt (entryAt n / 0x4000000) .uses))
 
 all-uses : T (every rowCount (λ n. test (uses-right n)))
 unfolding pick rows rowAt layoutOf entries entryAt actions actionAt
@@ -166,4 +191,4 @@ all-uses = tt
 pub uses-at : (n : ℕ) → n < rowCount → (rowAt n .option ≡ never → ⊥) → Holds (uses-like (rowAt n) (actionAt (entryAt n / 0x4000000) .uses))
 uses-at n h o =
     holds (uses-right n) (at-every rowCount (λ m. test (uses-right m)) n all-uses h)
-    (not-T (eqb (rowAt n .option) never) (λ t. o (eqb→eq _ _ t)))
+    (isnt-it (rowAt n .option) never o)

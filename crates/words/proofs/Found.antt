@@ -16,7 +16,8 @@ use Rattle.laws.specs.Table.{every, at-every, values, value-at}
 use Rattle.laws.specs.Test.{Holds, Member, member, member-holds, or-left, or-right, or-cases}
 use Rattle.words.specs.declared.Config.{Config}
 use Rattle.words.specs.Configs.{registerSizes, lawful}
-use Rattle.words.specs.Parts.{limit, available}
+use Rattle.words.specs.Parts.{available}
+use Rattle.words.specs.Codes.{limitOf}
 use Rattle.words.specs.Classes.{index, indexRows, byteRows, portRows, maskRows, miscRows, lookup, classOf, fieldOf, codeAt, choices, rowIn, rowOf}
 use Rattle.words.specs.Actions.{checks, entries}
 use Rattle.words.specs.Lookup.{entryAt, entryOf, checkAt, limitIn, upperLimit, lowerLimit, waitOf, uppers, lowers, Quick}
@@ -137,11 +138,11 @@ upper-clear w u l p q e =
 -- word 0 has limits that are REG_SIZE
 
 zero-upper : (c : Config) → upperLimit c (checkAt (entryOf 0 % 64)) ≡ c .regsize
-unfolding entryOf classOf rowOf rowIn fieldOf codeAt choices entryAt entries checkAt checks upperLimit limitIn limit available pick
+unfolding entryOf classOf rowOf rowIn fieldOf codeAt choices entryAt entries checkAt checks upperLimit limitIn limitOf available pick
 zero-upper c = zero-add (c .regsize)
 
 zero-lower : (c : Config) → lowerLimit c (checkAt (entryOf 0 % 64)) ≡ c .regsize
-unfolding entryOf classOf rowOf rowIn fieldOf codeAt choices entryAt entries checkAt checks lowerLimit limitIn limit pick
+unfolding entryOf classOf rowOf rowIn fieldOf codeAt choices entryAt entries checkAt checks lowerLimit limitIn limitOf pick
 zero-lower c = zero-add (c .regsize)
 
 size-some : (size : ℕ) → Member size registerSizes → 0 < size

@@ -3,14 +3,12 @@
 use Prim.Native.Nat.{ℕ, _+_, _-_, _*_, _/_, _%_, _≤_, _<_}
 use mathlib.Core.Path.{_≡_, refl}
 use mathlib.Core.Bool.{Bool, true, false}
-use mathlib.Core.List.{List, [], _∷_}
 use native.Mathlib.Omega.{arith}
 use lib.Dec.{T, ltb, lt→ltb}
-use lib.ListN.{getD}
 use Rattle.laws.specs.Choice.{pick}
 use Rattle.laws.specs.Test.{Test, less, most, same, yes?, if?, _and_, test, Holds, holds}
 use Rattle.laws.specs.Table.{every, at-every}
-use Rattle.words.specs.Kinds.{marks, marksOf}
+use Rattle.words.specs.Parts.{Part, unused, flag, byte, coprocessor, register, unit, mask, immediate, read-address, write-address, target, count, entry, short}
 use Rattle.words.specs.Rows.{Row, rows, rowCount, rowAt}
 use Rattle.words.specs.Classes.{classOf, Field, nothing, bits15-8, bit15, bit22, bits22-16, fieldOf, codeAt, choices, rowIn, rowOf}
 use Rattle.words.specs.Words.{flagIn, Layout, registers, upper-value, whole, layoutOf, upperIn, lowerIn, valueIn}
@@ -23,12 +21,12 @@ abbrev pub code : Row → ℕ
 code r = r .base % 0x800000
 
 -- the weight of a field's lowest bit, and how many values the field has
-abbrev unit : Field → ℕ
-unit nothing = 0
-unit bits15-8 = 256
-unit bit15 = 32768
-unit bit22 = 0x400000
-unit bits22-16 = 65536
+abbrev lowest : Field → ℕ
+lowest nothing = 0
+lowest bits15-8 = 256
+lowest bit15 = 32768
+lowest bit22 = 0x400000
+lowest bits22-16 = 65536
 
 abbrev codes : Field → ℕ
 codes nothing = 1
@@ -38,11 +36,21 @@ codes bit22 = 2
 codes bits22-16 = 128
 
 -- what the parts stay below in every lawful configuration, by what they hold
-unfoldable pub widest : List ℕ
-widest = 1 ∷ 2 ∷ 4 ∷ 32 ∷ 128 ∷ 64 ∷ 16 ∷ 65536 ∷ 65536 ∷ 65536 ∷ 0x800000 ∷ 16 ∷ 65536 ∷ 256 ∷ []
-
-unfoldable pub most-of : ℕ → ℕ
-most-of p = getD widest p 0
+unfoldable pub most-of : Part → ℕ
+most-of unused = 1
+most-of flag = 2
+most-of byte = 4
+most-of coprocessor = 32
+most-of register = 128
+most-of unit = 64
+most-of mask = 16
+most-of immediate = 65536
+most-of read-address = 65536
+most-of write-address = 65536
+most-of target = 0x800000
+most-of count = 16
+most-of entry = 65536
+most-of short = 256
 
 -- key k with code c is the key of its row with bit 26 and number as read, the number in its range, and the code is the row's
 abbrev key-right : ℕ → Row → ℕ → ℕ → Test
@@ -50,14 +58,14 @@ key-right n r k c =
     if? (ltb n rowCount)
     (most (key r + 8 * flagIn (r .flag) k) k and
     less (k - (key r + 8 * flagIn (r .flag) k)) (most-of (r .number)) and
-    same (code r) (c * unit (fieldOf (classOf k))))
+    same (code r) (c * lowest (fieldOf (classOf k))))
 
 abbrev keys-right : ℕ → Bool
 keys-right k =
     every (codes (fieldOf (classOf k))) (λ c. test (key-right (rowIn (classOf k) c) (rowAt (rowIn (classOf k) c)) k c))
 
 all-keys : T (every 512 keys-right)
-unfolding pick rows rowAt classOf fieldOf choices rowIn flagIn most-of widest
+unfolding pick rows rowAt classOf fieldOf choices rowIn flagIn most-of
 all-keys = tt
 
 code-few : (s : Field) (f : ℕ) → f < 0x800000 → codeAt s f < codes s
@@ -68,7 +76,7 @@ code-few bit15 f h = omega arith
 code-few bit22 f h = omega arith
 code-few bits22-16 f h = omega arith
 
-code-under : (s : Field) (f : ℕ) → codeAt s f * unit s ≤ f
+code-under : (s : Field) (f : ℕ) → codeAt s f * lowest s ≤ f
 unfolding codeAt
 code-under nothing f = omega arith
 code-under bits15-8 f = omega arith
@@ -77,7 +85,7 @@ code-under bit22 f = omega arith
 code-under bits22-16 f = omega arith
 
 -- in the low 16 bits too
-code-under-low : (s : Field) (f : ℕ) → codeAt s f * unit s % 65536 ≤ f % 65536
+code-under-low : (s : Field) (f : ℕ) → codeAt s f * lowest s % 65536 ≤ f % 65536
 unfolding codeAt
 code-under-low nothing f = omega arith
 code-under-low bits15-8 f = omega arith
@@ -165,7 +173,7 @@ row-tests n =
     every (most-of (rowAt n .flag)) (λ a. every (most-of (rowAt n .number)) (λ m. test (row-test n (rowAt n) a m)))
 
 all-rows : T (every rowCount row-tests)
-unfolding pick rows rowAt classOf fieldOf codeAt choices rowIn flagIn layoutOf most-of widest
+unfolding pick rows rowAt classOf fieldOf codeAt choices rowIn flagIn layoutOf most-of
 all-rows = tt
 
 pub row-found : (n a m : ℕ) → n < rowCount → a < most-of (rowAt n .flag) → m < most-of (rowAt n .number) → Holds (row-test n (rowAt n) a m)

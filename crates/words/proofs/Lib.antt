@@ -7,6 +7,7 @@ pub mod RoundTrip
 pub mod ClassTable
 pub mod Lent
 pub mod Checks
+pub mod Coded
 pub mod Lookup
 pub mod Found
 pub mod Answering

@@ -7,35 +7,31 @@ use mathlib.Core.List.{List, [], _∷_}
 use mathlib.Core.Logic.{_⊎_, inl, inr}
 use native.Mathlib.Nat.{not-suc-le-zero}
 use native.Mathlib.Omega.{arith}
-use borrow.Author.Tests.{ltb-true, ltb-false, ne-eqb}
-use lib.Dec.{T, ltb, ltb→lt, eqb, eqb→eq, T-not, not-T}
+use borrow.Author.Tests.{ltb-true, ltb-false}
+use lib.Dec.{T, ltb, ltb→lt, eqb, eqb→eq}
 use lib.Bits.{bitAnd, and-mask}
 use lib.ListN.{List·getD-eq-default}
 use Rattle.laws.specs.Choice.{pick, either}
-use Rattle.laws.specs.Test.{less, _and_, test, Holds, holds, Member, imp, imp-use, eq→eqb, and-left, and-right}
+use Rattle.laws.specs.Test.{_and_, test, Holds, holds, Member, imp, imp-use, eq→eqb, and-left, and-right}
 use Rattle.laws.specs.First.{first-failing, Obeyed, none-fails, numbered, obeyed}
 use Rattle.words.specs.declared.Config.{Config}
 use Rattle.words.specs.declared.Instruction.{Instruction}
-use Rattle.words.specs.Parts.{unused, flag, byte, register, target, count, limit, never, available}
+use Rattle.words.specs.Parts.{Part, unused, flag, byte, coprocessor, register, unit, mask, immediate, read-address, write-address, target, count, entry, short, is, inRange}
+use Rattle.words.specs.Parts.{Option, never, available}
+use Rattle.words.specs.Codes.{limitOf}
 use Rattle.words.specs.Rows.{Row, rowCount, rowAt}
-use Rattle.words.specs.Words.{flagIn, Layout, registers, upper-value, whole, layoutOf, upperIn, lowerIn, valueIn, shiftCount, fieldsIn, spread, fits, refusals567, answered, partsBy, partsOf, readBy, readLawful}
+use Rattle.words.specs.Words.{flagIn, Layout, registers, upper-value, whole, layoutOf, upperIn, lowerIn, valueIn, fieldsIn, spread, fits, refusals567, answered, partsBy, partsOf, readBy, readLawful}
 use Rattle.words.specs.Classes.{index, bytes, port, masks, misc, classOf, fieldOf, codeAt, choices, lookup, rowIn, rowOf}
 use Rattle.words.specs.Configs.{registerSizes, lawful}
 use Rattle.words.specs.Facts.{factsOf}
 use Rattle.words.specs.Claims.{understood}
-use Rattle.words.specs.Actions.{anything, input, load, Check, checks, entries}
-use Rattle.words.specs.Lookup.{entryAt, entryOf, entryFacts, checkAt, limitIn, upperLimit, lowerLimit, waitOf, Quick, Agrees}
-use Rattle.words.proofs.Keys.{code, widest, most-of, row-facts}
+use Rattle.words.specs.Actions.{part, input, load, Check, checks, entries}
+use Rattle.words.specs.Lookup.{entryAt, entryOf, checkAt, limitIn, upperLimit, lowerLimit, waitOf, Quick, Agrees}
+use Rattle.words.proofs.Keys.{code, most-of, row-facts}
 use Rattle.words.proofs.RoundTrip.{decoded}
-use Rattle.words.proofs.Checks.{alike-is, entry-at, sides-like, check-at, upper-at, lower-at, value-at, whole-at, uses-at}
+use Rattle.words.proofs.Checks.{alike-is, is-it, needs-it, isnt-it, waits-at, side-it, sides-like, check-at, upper-at, lower-at, value-at, whole-at, uses-at}
 
--- The facts of a row
-
-pub entry-facts : (n : ℕ) → n < rowCount → (rowAt n .option ≡ never → ⊥) → entryFacts (entryAt n) ≡ factsOf n
-unfolding factsOf
-entry-facts n h o =
-    let p = entry-at n h o in
-    rw (p .0, p .1 .0, p .1 .1 .0, p .1 .1 .1 .0)
+-- What a row waits for
 
 waits-either : (a b p : Bool) → pick {A = ℕ} a 1 (pick (b && p) 1 0) ≡ pick (a || b && p) 1 0
 unfolding pick
@@ -46,7 +42,7 @@ pub waited : (c : Config) (n : ℕ) → n < rowCount → (rowAt n .option ≡ ne
     waitOf c (checkAt (entryAt n % 64)) ≡ pick (factsOf n .input || factsOf n .load && not (eqb (c .dmpipe) 0)) 1 0
 unfolding waitOf
 waited c n h o =
-    let p = entry-at n h o .1 .1 .1 .1 in
+    let p = waits-at n h o in
     let k = checkAt (entryAt n % 64) in
     rw (alike-is (eqb (k .wait) input) (factsOf n .input) (p .0), alike-is (eqb (k .wait) load) (factsOf n .load) (p .1))
     (waits-either (factsOf n .input) (factsOf n .load) (not (eqb (c .dmpipe) 0)))
@@ -68,7 +64,7 @@ read-as c w i e =
     let q = obeyed tests (numbered tests tt) (p .0) in
     record { parts = sym (p .1); row = q .0; option = q .1 .0; fit = q .1 .1 .0 }
 
-unnamed : (c : Config) (o : ℕ) → Holds (available c o) → o ≡ never → ⊥
+unnamed : (c : Config) (o : Option) → Holds (available c o) → o ≡ never → ⊥
 unfolding available
 unnamed c o h e = rw e at h
 
@@ -91,65 +87,74 @@ above-pick false x y h = ((λ t. t), h)
 
 -- each part is in its range
 
-flag-fits : (c : Config) (p k : ℕ) → (p ≡ unused) ⊎ (p ≡ flag) → flagIn p k < limit c p
-unfolding flagIn limit pick
-flag-fits c p k (inl e) = rw e (omega arith)
+flag-fits : (c : Config) (p : Part) (k : ℕ) → (p ≡ unused) ⊎ (p ≡ flag) → Holds (inRange c p (flagIn p k))
+unfolding flagIn inRange pick
+flag-fits c p k (inl e) = rw e refl
 flag-fits c p k (inr e) = rw e (omega arith)
 
-number-fits : (c : Config) (p m : ℕ) → m < most-of p → (p ≡ unused) ⊎ (p ≡ byte) × (c .regwidth ≡ 32) → m < limit c p
-unfolding limit most-of widest
-number-fits c p m h (inl e) = rw e (rw e at h)
+number-fits : (c : Config) (p : Part) (m : ℕ) → m < most-of p → (p ≡ unused) ⊎ (p ≡ byte) × (c .regwidth ≡ 32) → Holds (inRange c p m)
+unfolding inRange most-of
+number-fits c p m h (inl e) = let z = rw e at h in rw e (omega (arith, z))
 number-fits c p m h (inr e) = rw (e .0, e .1) (rw (e .0) at h)
 
-limit-under : (c : Config) (all p m : ℕ) → p < anything → m < limitIn c all p →
-    (T (eqb p count && eqb (c .alulevel) 0) → ⊥) × (m < limit c p)
-unfolding limitIn pick
-limit-under c all p m h q =
-    above-pick (eqb p count && eqb (c .alulevel) 0) m (limit c p) (rw (ne-eqb p anything (λ e. omega arith)) at q)
+limit-under : (c : Config) (all : ℕ) (p : Part) (m : ℕ) → m < limitIn c all (part p) → Holds (inRange c p m)
+unfolding limitIn limitOf inRange pick
+limit-under c all unused m h = omega arith
+limit-under c all flag m h = h
+limit-under c all byte m h = h
+limit-under c all coprocessor m h = h
+limit-under c all register m h = h
+limit-under c all unit m h = h
+limit-under c all mask m h = h
+limit-under c all immediate m h = h
+limit-under c all read-address m h = h
+limit-under c all write-address m h = h
+limit-under c all target m h = h
+limit-under c all count m h = let q = above-pick (eqb (c .alulevel) 0) m 16 h in (q .1, λ t. absurd (q .0 t))
+limit-under c all entry m h = h
+limit-under c all short m h = h
 
-limit-unused : (c : Config) (p : ℕ) → p ≡ unused → 0 < limit c p
-unfolding limit
-limit-unused c p e = rw e (omega arith)
+unused-fits : (c : Config) (p : Part) → p ≡ unused → Holds (inRange c p 0)
+unfolding inRange
+unused-fits c p e = rw e refl
 
-limit-target : (c : Config) (p : ℕ) → p ≡ target → limit c p ≡ 0x800000
-unfolding limit
-limit-target c p e = rw e
-
-uncounted : (p q : ℕ) (b : Bool) (A : Type 0) → T (not (eqb q count)) → p ≡ q → T (eqb p count && b) → A
-uncounted p q b A z e t = absurd (T-not (eqb q count) z (and-left (eqb q count) b (rw e at t)))
+target-fits : (c : Config) (p : Part) (v : ℕ) → p ≡ target → v < 0x800000 → Holds (inRange c p v)
+unfolding inRange
+target-fits c p v e h = rw e h
 
 module _
     (c : Config) (r : Row) (k : Check) (f : ℕ) (same-code : k .code ≡ code r) (most-code : code r ≤ f) (most-low : code r % 65536 ≤ f % 65536)
     (hf : f < 0x800000) (hu : f / 65536 < k .code / 65536 + limitIn c 128 (k .upper))
     (hl : f % 65536 < k .code % 65536 + limitIn c 65536 (k .lower)) where
   sides-fit : (y : Layout) → Holds (sides-like y r k) → Holds (
-      less (upperIn y (f - code r)) (limit c (r .destination)) and
-      less (lowerIn y (f - code r)) (limit c (r .source)) and
-      less (valueIn y (f - code r)) (limit c (r .value)) and
-      shiftCount (c .alulevel) (r .value) (valueIn y (f - code r))
+      inRange c (r .destination) (upperIn y (f - code r)) and
+      inRange c (r .source) (lowerIn y (f - code r)) and
+      inRange c (r .value) (valueIn y (f - code r))
       )
   unfolding upperIn lowerIn valueIn
   sides-fit registers t =
-      let u = rw (t .0, same-code) at hu in
-      let l = rw (t .1 .0, same-code) at hl in (
-        limit-under c 128 (r .destination) ((f - code r) / 65536) (t .1 .1 .0) (omega arith) .1,
+      let u = rw (side-it (k .upper) (r .destination) (t .0), same-code) at hu in
+      let l = rw (side-it (k .lower) (r .source) (t .1 .0), same-code) at hl in (
+        limit-under c 128 (r .destination) ((f - code r) / 65536) (omega arith),
         (
-          limit-under c 65536 (r .source) ((f - code r) % 65536) (t .1 .1 .1 .0) (omega arith) .1,
-          (limit-unused c _ (t .1 .1 .1 .1), uncounted (r .value) unused _ _ tt (t .1 .1 .1 .1)),
+          limit-under c 65536 (r .source) ((f - code r) % 65536) (omega arith),
+          unused-fits c _ (is-it (r .value) unused (t .1 .1)),
         ),
       )
   sides-fit upper-value t =
-      let u = rw (t .0, same-code) at hu in
-      let l = rw (t .1 .0, same-code) at hl in
-      let v = limit-under c 65536 (r .value) ((f - code r) % 65536) (t .1 .1 .1 .0) (omega arith) in (
-        limit-under c 128 (r .destination) ((f - code r) / 65536) (t .1 .1 .0) (omega arith) .1,
-        (limit-unused c _ (t .1 .1 .1 .1), (v .1, λ q. absurd (v .0 q))),
+      let u = rw (side-it (k .upper) (r .destination) (t .0), same-code) at hu in
+      let l = rw (side-it (k .lower) (r .value) (t .1 .0), same-code) at hl in (
+        limit-under c 128 (r .destination) ((f - code r) / 65536) (omega arith),
+        (
+          unused-fits c _ (is-it (r .source) unused (t .1 .1)),
+          limit-under c 65536 (r .value) ((f - code r) % 65536) (omega arith),
+        ),
       )
   sides-fit whole t = (
-    limit-unused c _ (t .0),
+    unused-fits c _ (is-it (r .destination) unused (t .0)),
     (
-      limit-unused c _ (t .1 .0),
-      (omega (arith, limit-target c (r .value) (t .1 .1)), uncounted (r .value) target _ _ tt (t .1 .1)),
+      unused-fits c _ (is-it (r .source) unused (t .1 .0)),
+      target-fits c (r .value) (f - code r) (is-it (r .value) target (t .1 .1)) (omega arith),
     ),
   )
 
@@ -167,10 +172,15 @@ found c n t = go (ltb n rowCount) refl
     go false e = absurd (rw (past-entries n (ltb-false n rowCount e)) at t)
 
 -- a byte number that is not tested stands in a word of 32 bits
-wide-number : (p b width : ℕ) → T (imp (eqb b 1) (eqb width 32)) → (p ≡ unused) ⊎ (p ≡ byte) × (b ≡ 1) → (p ≡ unused) ⊎ (p ≡ byte) × (width ≡ 32)
-wide-number p b width t (inl e) = inl e
+wide-number : (p : Part) (b width : ℕ) → T (imp (eqb b 1) (eqb width 32)) → T (is p unused) ⊎ T (is p byte) × (b ≡ 1) →
+    (p ≡ unused) ⊎ (p ≡ byte) × (width ≡ 32)
+wide-number p b width t (inl e) = inl (is-it p unused e)
 wide-number p b width t (inr e) =
-    inr (e .0, eqb→eq width 32 (imp-use (eqb b 1) (eqb width 32) t (eq→eqb b 1 (e .1))))
+    inr (is-it p byte (e .0), eqb→eq width 32 (imp-use (eqb b 1) (eqb width 32) t (eq→eqb b 1 (e .1))))
+
+flag-either : (p : Part) → T (is p unused) ⊎ T (is p flag) → (p ≡ unused) ⊎ (p ≡ flag)
+flag-either p (inl t) = inl (is-it p unused t)
+flag-either p (inr t) = inr (is-it p flag t)
 
 -- what passes the check obeys 5, 6 and 7
 obeys : (c : Config) (w : ℕ) → w < 0x100000000 → Quick c w → Obeyed (refusals567 c (rowAt (partsOf w .row)) (partsOf w))
@@ -186,8 +196,8 @@ obeys c w hw q =
     let u = under-pick (there && wide) (w / 65536 % 128) (x .code / 65536 + limitIn c 128 (x .upper)) (q .upper) in
     let row = found c n (and-left there wide (u .0)) in
     let right = check-at n row in
-    let option = holds (available c (r .option)) (rw (right .0) at (and-left there wide (u .0))) in
-    let like = right .1 (not-T (eqb (r .option) never) (λ t. unnamed c (r .option) option (eqb→eq _ _ t))) in
+    let option = holds (available c (r .option)) (rw (needs-it (x .option) (r .option) (right .0)) at (and-left there wide (u .0))) in
+    let like = right .1 (isnt-it (r .option) never (unnamed c (r .option) option)) in
     let facts = row-facts k f (omega arith) (omega arith) row in
     let sides =
     sides-fit c r x f (like .0) (facts .code-most) (facts .code-low) (omega arith) (omega (arith, u .1)) (omega (arith, q .lower))
@@ -197,7 +207,7 @@ obeys c w hw q =
         option,
         (
           (
-            flag-fits c (r .flag) k (like .1 .0),
+            flag-fits c (r .flag) k (flag-either (r .flag) (like .1 .0)),
             (
               number-fits c (r .number) _ (facts .number-less)
                   (wide-number (r .number) (x .bytes) (c .regwidth) (and-right there wide (u .0)) (like .1 .1 .0)),
@@ -230,16 +240,16 @@ low-source w b h z = omega arith
 low-value : (w b : ℕ) → b ≤ w % 0x800000 → b % 65536 ≡ 0 → (w % 0x800000 - b) % 65536 ≡ w % 65536
 low-value w b h z = omega arith
 
-flag-at : (p k : ℕ) → p ≡ flag → flagIn p k ≡ k / 8 % 2
+flag-at : (p : Part) (k : ℕ) → p ≡ flag → flagIn p k ≡ k / 8 % 2
 unfolding flagIn pick
 flag-at p k e = rw e
 
-limit-register : (c : Config) (p : ℕ) → p ≡ register → limit c p ≡ c .regsize
-unfolding limit
-limit-register c p e = rw e
+below-register : (c : Config) (p : Part) (v : ℕ) → p ≡ register → Holds (inRange c p v) → v < c .regsize
+unfolding inRange
+below-register c p v e h = rw e at h
 
-most-byte : (p : ℕ) → p ≡ byte → most-of p ≡ 4
-unfolding most-of widest
+most-byte : (p : Part) → p ≡ byte → most-of p ≡ 4
+unfolding most-of
 most-byte p e = rw e
 
 parts-agree : (c : Config) (w : ℕ) → Holds (lawful c) → w < 0x100000000 → partsOf w .row < rowCount →
@@ -256,22 +266,20 @@ parts-agree c w hc hw row option fit =
     let facts = row-facts k f (omega arith) (omega arith) row in
     let u = uses-at n row (unnamed c (r .option) option) in
     record {
-      flag = λ t. flag-at (r .flag) k (u .0 t) ∙ omega arith;
+      flag = λ t. flag-at (r .flag) k (is-it _ _ (u .0 t)) ∙ omega arith;
       destination = λ t.
           let q = u .1 .0 t in
           let z = upper-at y (f - code r) (q .1 .0) in
-          let l = limit-register c (r .destination) (q .0) in
-          let d = fit .1 .1 .0 in
+          let l = below-register c (r .destination) _ (is-it _ _ (q .0)) (fit .1 .1 .0) in
           size-mod (c .regsize) (w / 65536) _ size (omega arith) (omega arith);
       source = λ t.
           let q = u .1 .1 .0 t in
           let z = lower-at y (f - code r) (q .1 .0) in
-          let l = limit-register c (r .source) (q .0) in
-          let d = fit .1 .1 .1 .0 in
+          let l = below-register c (r .source) _ (is-it _ _ (q .0)) (fit .1 .1 .1 .0) in
           size-mod (c .regsize) w _ size (rw z (low-source w (code r) (facts .code-most) (q .1 .1))) (omega arith);
       number = λ t.
           let q = u .1 .1 .1 .0 t in
-          let m = most-byte (r .number) (q .0) in
+          let m = most-byte (r .number) (is-it _ _ (q .0)) in
           omega arith;
       value = λ t.
           let q = u .1 .1 .1 .1 .0 t in

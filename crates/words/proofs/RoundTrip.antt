@@ -9,17 +9,17 @@ use lib.Dec.{T, leb, leb→le, eqb}
 use Rattle.laws.specs.Choice.{pick}
 use Rattle.laws.specs.Test.{Holds, Member}
 use Rattle.laws.specs.First.{first-failing, Numbered, Obeyed, obeyed}
-use Rattle.laws.specs.Lists.{all, all-at, under-at}
+use Rattle.laws.specs.Lists.{all, all-at}
 use Rattle.words.specs.declared.Config.{Config}
 use Rattle.words.specs.declared.Fields.{Fields}
 use Rattle.words.specs.declared.Instruction.{Instruction}
 use Rattle.words.specs.Configs.{lawful, widths, registerSizes, dataSizes}
-use Rattle.words.specs.Parts.{limits, limit}
+use Rattle.words.specs.Parts.{Part, unused, flag, byte, coprocessor, register, unit, mask, immediate, read-address, write-address, target, count, entry, short, inRange}
 use Rattle.words.specs.Rows.{Row, rowCount, rowAt}
 use Rattle.words.specs.Classes.{classOf, fieldOf, rowIn, rowOf}
 use Rattle.words.specs.Words.{flagIn, layoutOf, upperIn, lowerIn, valueIn, fieldsIn, wordFrom, spread, gather, fits, refusals567, refusals, zeros, answered, partsBy, partsOf, readOf, written, wordOf, writeOf}
 use Rattle.words.specs.Claims.{wrote, understood, ReadThenWrite, WriteThenRead}
-use Rattle.words.proofs.Keys.{key, code, row-facts, layout-sum, widest, most-of, field-back, layout-back, row-found}
+use Rattle.words.proofs.Keys.{key, code, row-facts, layout-sum, most-of, field-back, layout-back, row-found}
 
 -- a word of a row is what its parts are written as
 word-back : (w : ℕ) → w < 0x100000000 → partsOf w .row < rowCount → wordOf (partsOf w) ≡ w
@@ -96,9 +96,22 @@ bounds c h =
       memory = most-member dataSizes _ 32768 tt (h .1 .1 .1 .0 .1 .1 .0);
     }
 
-limit-most : (c : Config) (p : ℕ) → Bounds c → limit c p ≤ most-of p
-unfolding limit most-of widest
-limit-most c p b = under-at (limits c) widest p (omega arith)
+range-most : (c : Config) (p : Part) (v : ℕ) → Bounds c → Holds (inRange c p v) → v < most-of p
+unfolding inRange most-of
+range-most c unused v b h = omega arith
+range-most c flag v b h = h
+range-most c byte v b h = omega arith
+range-most c coprocessor v b h = h
+range-most c register v b h = omega arith
+range-most c unit v b h = h
+range-most c mask v b h = h
+range-most c immediate v b h = h
+range-most c read-address v b h = omega arith
+range-most c write-address v b h = omega arith
+range-most c target v b h = h
+range-most c count v b h = h .0
+range-most c entry v b h = h
+range-most c short v b h = h
 
 -- what it means that no test fails
 record Stands (i : Instruction) : Type 0 where
@@ -120,18 +133,13 @@ stands c i e =
     let p = obeyed (refusals c r i) (numbered c r i) e in
     let b = bounds c (p .0) in
     let f = p .1 .1 .1 .0 in
-    let lf = limit-most c (r .flag) b in
-    let ln = limit-most c (r .number) b in
-    let ld = limit-most c (r .destination) b in
-    let ls = limit-most c (r .source) b in
-    let lv = limit-most c (r .value) b in
     record {
       row = p .1 .0;
-      flag = omega arith;
-      number = omega arith;
-      destination = omega arith;
-      source = omega arith;
-      value = omega arith;
+      flag = range-most c (r .flag) _ b (f .0);
+      number = range-most c (r .number) _ b (f .1 .0);
+      destination = range-most c (r .destination) _ b (f .1 .1 .0);
+      source = range-most c (r .source) _ b (f .1 .1 .1 .0);
+      value = range-most c (r .value) _ b (f .1 .1 .1 .1);
     }
 
 -- what an answer of number 0 tells

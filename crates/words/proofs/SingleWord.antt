@@ -3,11 +3,16 @@
 use Prim.Native.Nat.{ℕ, zero, suc, _+_, _*_, _/_, _%_, _^_, _<_, _≤_}
 use mathlib.Core.Path.{_≡_, sym}
 use native.Mathlib.Omega.{arith}
-use lib.Dec.{T, eqb, eqb→eq}
+use mathlib.Core.Bool.{Bool}
+use lib.Dec.{T, ltb, eqb, eqb→eq}
 use lib.ListN.{getD, List·getD-eq-default}
 use Rattle.laws.specs.Choice.{pick}
+use Rattle.laws.specs.Test.{test}
 use Rattle.laws.specs.Table.{every, at-every}
+use Rattle.words.specs.declared.Config.{Config}
+use Rattle.words.specs.Parts.{short, inRange}
 use Rattle.words.specs.Rows.{rows, rowCount}
+use Rattle.words.specs.Codes.{parts, partAt}
 use Rattle.words.specs.Classes.{classOf}
 use Rattle.words.specs.Packed.{noPacked, baseTable, rowTable, eightClasses}
 
@@ -36,6 +41,13 @@ classes-moved j i v e h = rw e h
 
 pub base-moved : (n i v : ℕ) → n ≡ i → v ≡ getD baseTable i 0 → v ≡ getD baseTable n 0
 base-moved n i v e h = rw e h
+
+pub range-moved : (c : Config) (p i v : ℕ) (b : Bool) → p ≡ i → b ≡ test (inRange c (partAt i) v) → b ≡ test (inRange c (partAt p) v)
+range-moved c p i v b e h = rw e h
+
+pub range-past : (c : Config) (p v : ℕ) → 13 ≤ p → ltb v 256 ≡ test (inRange c (partAt p) v)
+unfolding inRange partAt
+range-past c p v h = rw (List·getD-eq-default parts short h)
 
 pub base-past : (n : ℕ) → rowCount ≤ n → 0 ≡ getD baseTable n 0
 unfolding baseTable rows

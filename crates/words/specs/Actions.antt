@@ -1,15 +1,14 @@
 -- How code looks a row up: tables that only the proofs need to agree with (proofs/Lookup.antt); nothing here is to be believed. Written by tools/rows.
 use Prim.Native.Nat.{ℕ}
 use mathlib.Core.List.{List, [], _∷_}
-use Rattle.words.specs.Parts.{unused, flag, byte, coprocessor, register, unit, mask, immediate, read-address, write-address, target, count, entry, short}
-use Rattle.words.specs.Parts.{nothing, mult, level1, level2, level2-memory, memory, ports, rmw, banks, spr, never}
-use Rattle.words.specs.Kinds.{unsupported, compute, compare, multiply, shift, transform, bytewise, load-index, index-store, index-load, move, constant, load-register, load-direct, store-register, store-direct, port-read, port-modify, port-write, jump, branch, jump-register, branch-register, call, call-register, return, return-constant, enter-bank, leave-bank, enter-special, leave-special}
-use Rattle.words.specs.Kinds.{none, TST, AND, OR, XOR, CMP, CMPS, SUB, SUBS, ADD, ADDC, SUBC, MUL, SHR, SHRA, SHL, ROTR, ROTL, SHL16, ABS, CLZ, BST, BLD, BLDS}
-use Rattle.words.specs.Kinds.{no-form, from-register, signed, unsigned, shifted, short-signed, counted}
-
--- the form of an action whose immediate's form stands in the row's entry
-abbrev pub by-entry : ℕ
-by-entry = 7
+use Rattle.arith.specs.declared.Form.{Form}
+use Rattle.arith.specs.declared.Form.the-variants.{Signed, Unsigned, Shifted}
+use Rattle.arith.specs.declared.Operation.the-variants.{And, Or, Xor, Add, Addc, Sub, Subc, Subs, Shl, Shr, Shra, Rotl, Rotr, Shl16, Abs, Clz, Bst, Bld, Blds}
+use Rattle.words.specs.Parts.{Part, unused, flag, byte, coprocessor, register, unit, mask, immediate, read-address, write-address, target, count, entry, short}
+use Rattle.words.specs.Parts.{Option, nothing, mult, level1, level2, level2-memory, memory, ports, rmw, banks, spr, never}
+use Rattle.words.specs.Kinds.{Operand, from-register, literal, short-literal, counted}
+use Rattle.words.specs.Kinds.{Condition, Z, NZ, GT, LT, GE, LE, NIRQ, B0, B1, NB0, NB1, BIO}
+use Rattle.words.specs.Kinds.{Kind, unsupported, compute, compare, multiply, bytewise, load-index, index-store, index-load, move, load-constant, load-register, load-direct, store-register, store-direct, port-read, port-modify, port-write, jump, branch, jump-register, branch-register, call, call-register, return, return-constant, enter-bank, leave-bank, enter-special, leave-special}
 
 -- which parts of a word an action reads
 
@@ -34,87 +33,86 @@ target′ = 32
 abbrev pub unit′ : ℕ
 unit′ = 64
 
--- An action: kind, operation and form together, and the parts that it reads, by their marks added up.
+-- An action: a kind but for the form of its immediate and its condition, and the parts that it reads, by their marks added up.
 pub record Action : Type 0 where
-  pub kind : ℕ
-  pub operation : ℕ
-  pub form : ℕ
+  pub does : Form → Condition → Kind
   pub uses : ℕ
 
-abbrev pub action : ℕ → ℕ → ℕ → ℕ → Action
-action kind operation form uses = record { kind = kind; operation = operation; form = form; uses = uses }
+abbrev pub action : (Form → Condition → Kind) → ℕ → Action
+action does uses = record { does = does; uses = uses }
 
 unfoldable pub actions : List Action
 actions =
-    action unsupported none no-form 0 ∷
-    action compare TST from-register 7 ∷
-    action compare TST by-entry 19 ∷
-    action compute AND from-register 7 ∷
-    action compute AND by-entry 19 ∷
-    action compute OR from-register 7 ∷
-    action compute OR by-entry 19 ∷
-    action compute XOR from-register 7 ∷
-    action compute XOR by-entry 19 ∷
-    action compare CMP from-register 7 ∷
-    action compare CMP by-entry 19 ∷
-    action compare CMPS from-register 7 ∷
-    action compare CMPS by-entry 19 ∷
-    action compute SUB from-register 7 ∷
-    action compute SUB by-entry 19 ∷
-    action compute SUBS from-register 7 ∷
-    action compute SUBS by-entry 19 ∷
-    action compute ADD from-register 7 ∷
-    action compute ADD by-entry 19 ∷
-    action compute ADDC from-register 7 ∷
-    action compute ADDC by-entry 19 ∷
-    action compute SUBC from-register 7 ∷
-    action compute SUBC by-entry 19 ∷
-    action multiply MUL from-register 7 ∷
-    action multiply MUL by-entry 19 ∷
-    action shift SHR from-register 7 ∷
-    action shift SHRA from-register 7 ∷
-    action shift SHL from-register 7 ∷
-    action shift SHR counted 19 ∷
-    action shift SHRA counted 19 ∷
-    action shift SHL counted 19 ∷
-    action transform ROTR no-form 7 ∷
-    action transform ROTL no-form 7 ∷
-    action transform SHL16 no-form 7 ∷
-    action transform ABS no-form 7 ∷
-    action transform CLZ no-form 7 ∷
-    action bytewise BST no-form 15 ∷
-    action bytewise BLD no-form 15 ∷
-    action bytewise BLDS no-form 15 ∷
-    action load-index none no-form 7 ∷
-    action index-store none no-form 3 ∷
-    action index-load none no-form 5 ∷
-    action move none from-register 6 ∷
-    action constant none by-entry 18 ∷
-    action load-register none no-form 6 ∷
-    action load-direct none no-form 18 ∷
-    action store-register none no-form 6 ∷
-    action store-direct none no-form 18 ∷
-    action port-read none no-form 6 ∷
-    action port-modify none no-form 6 ∷
-    action port-write none from-register 6 ∷
-    action port-write none by-entry 18 ∷
-    action jump none no-form 32 ∷
-    action branch none no-form 32 ∷
-    action jump-register none no-form 2 ∷
-    action branch-register none no-form 2 ∷
-    action call none no-form 32 ∷
-    action call-register none no-form 2 ∷
-    action return-constant none signed 18 ∷
-    action enter-bank none no-form 80 ∷
-    action return none no-form 0 ∷
-    action leave-bank none no-form 0 ∷
-    action leave-special none no-form 0 ∷
-    action enter-special none no-form 0 ∷
+    action (λ f c. unsupported) 0 ∷
+    action (λ f c. compare And from-register) 7 ∷
+    action (λ f c. compare And (literal f)) 19 ∷
+    action (λ f c. compute And from-register) 7 ∷
+    action (λ f c. compute And (literal f)) 19 ∷
+    action (λ f c. compute Or from-register) 7 ∷
+    action (λ f c. compute Or (literal f)) 19 ∷
+    action (λ f c. compute Xor from-register) 7 ∷
+    action (λ f c. compute Xor (literal f)) 19 ∷
+    action (λ f c. compare Sub from-register) 7 ∷
+    action (λ f c. compare Sub (literal f)) 19 ∷
+    action (λ f c. compare Subs from-register) 7 ∷
+    action (λ f c. compare Subs (literal f)) 19 ∷
+    action (λ f c. compute Sub from-register) 7 ∷
+    action (λ f c. compute Sub (literal f)) 19 ∷
+    action (λ f c. compute Subs from-register) 7 ∷
+    action (λ f c. compute Subs (literal f)) 19 ∷
+    action (λ f c. compute Add from-register) 7 ∷
+    action (λ f c. compute Add (literal f)) 19 ∷
+    action (λ f c. compute Addc from-register) 7 ∷
+    action (λ f c. compute Addc (literal f)) 19 ∷
+    action (λ f c. compute Subc from-register) 7 ∷
+    action (λ f c. compute Subc (literal f)) 19 ∷
+    action (λ f c. multiply from-register) 7 ∷
+    action (λ f c. multiply (literal f)) 19 ∷
+    action (λ f c. compute Shr from-register) 7 ∷
+    action (λ f c. compute Shra from-register) 7 ∷
+    action (λ f c. compute Shl from-register) 7 ∷
+    action (λ f c. compute Shr counted) 19 ∷
+    action (λ f c. compute Shra counted) 19 ∷
+    action (λ f c. compute Shl counted) 19 ∷
+    action (λ f c. compute Rotr from-register) 7 ∷
+    action (λ f c. compute Rotl from-register) 7 ∷
+    action (λ f c. compute Shl16 from-register) 7 ∷
+    action (λ f c. compute Abs from-register) 7 ∷
+    action (λ f c. compute Clz from-register) 7 ∷
+    action (λ f c. bytewise Bst) 15 ∷
+    action (λ f c. bytewise Bld) 15 ∷
+    action (λ f c. bytewise Blds) 15 ∷
+    action (λ f c. load-index) 7 ∷
+    action (λ f c. index-store) 3 ∷
+    action (λ f c. index-load) 5 ∷
+    action (λ f c. move) 6 ∷
+    action (λ f c. load-constant f) 18 ∷
+    action (λ f c. load-register) 6 ∷
+    action (λ f c. load-direct) 18 ∷
+    action (λ f c. store-register) 6 ∷
+    action (λ f c. store-direct) 18 ∷
+    action (λ f c. port-read) 6 ∷
+    action (λ f c. port-modify) 6 ∷
+    action (λ f c. port-write from-register) 6 ∷
+    action (λ f c. port-write (literal f)) 18 ∷
+    action (λ f c. jump) 32 ∷
+    action (λ f c. branch c) 32 ∷
+    action (λ f c. jump-register) 2 ∷
+    action (λ f c. branch-register c) 2 ∷
+    action (λ f c. call) 32 ∷
+    action (λ f c. call-register) 2 ∷
+    action (λ f c. return-constant) 18 ∷
+    action (λ f c. enter-bank) 80 ∷
+    action (λ f c. return) 0 ∷
+    action (λ f c. leave-bank) 0 ∷
+    action (λ f c. leave-special) 0 ∷
+    action (λ f c. enter-special) 0 ∷
     []
 
--- what a part may hold that fills its place
-abbrev pub anything : ℕ
-anything = 14
+-- what a place of a word may hold beside the code
+pub data Side : Type 0 where
+  anything : Side
+  part : Part → Side
 
 -- a check's waits
 abbrev pub no-wait : ℕ
@@ -129,49 +127,49 @@ load = 2
 -- A check: the code in bits 22-0, what bits 22-16 and 15-0 hold beside it, the option, whether a byte number may not be tested, and what makes it wait.
 pub record Check : Type 0 where
   pub code : ℕ
-  pub upper : ℕ
-  pub lower : ℕ
-  pub option : ℕ
+  pub upper : Side
+  pub lower : Side
+  pub option : Option
   pub bytes : ℕ
   pub wait : ℕ
 
-abbrev pub check : ℕ → ℕ → ℕ → ℕ → ℕ → ℕ → Check
+abbrev pub check : ℕ → Side → Side → Option → ℕ → ℕ → Check
 check code upper lower option bytes wait =
     record { code = code; upper = upper; lower = lower; option = option; bytes = bytes; wait = wait }
 
 -- the first refuses everything
 unfoldable pub checks : List Check
 checks =
-    check 0 unused unused never 0 no-wait ∷
-    check 0x0 register register nothing 0 no-wait ∷
-    check 0x0 register immediate nothing 0 no-wait ∷
-    check 0x0 register register mult 0 no-wait ∷
-    check 0x0 register immediate mult 0 no-wait ∷
-    check 0x0 register register level1 0 no-wait ∷
-    check 0x0 register count nothing 0 no-wait ∷
-    check 0x100 register register level2 1 no-wait ∷
-    check 0x200 register register level2 1 no-wait ∷
-    check 0x600 register register level2 1 no-wait ∷
-    check 0x1400 register register level2 0 no-wait ∷
-    check 0x1800 register unused level2-memory 0 no-wait ∷
-    check 0x1c00 unused register level2-memory 0 load ∷
-    check 0x0 register register memory 0 load ∷
-    check 0x0 register read-address memory 0 load ∷
-    check 0x0 register register memory 0 no-wait ∷
-    check 0x0 register write-address memory 0 no-wait ∷
-    check 0x0 register register ports 0 input ∷
-    check 0x8000 register register rmw 0 input ∷
-    check 0x0 register register ports 0 no-wait ∷
-    check 0x0 register immediate ports 0 no-wait ∷
+    check 0 (part unused) (part unused) never 0 no-wait ∷
+    check 0x0 (part register) (part register) nothing 0 no-wait ∷
+    check 0x0 (part register) (part immediate) nothing 0 no-wait ∷
+    check 0x0 (part register) (part register) mult 0 no-wait ∷
+    check 0x0 (part register) (part immediate) mult 0 no-wait ∷
+    check 0x0 (part register) (part register) level1 0 no-wait ∷
+    check 0x0 (part register) (part count) nothing 0 no-wait ∷
+    check 0x100 (part register) (part register) level2 1 no-wait ∷
+    check 0x200 (part register) (part register) level2 1 no-wait ∷
+    check 0x600 (part register) (part register) level2 1 no-wait ∷
+    check 0x1400 (part register) (part register) level2 0 no-wait ∷
+    check 0x1800 (part register) (part unused) level2-memory 0 no-wait ∷
+    check 0x1c00 (part unused) (part register) level2-memory 0 load ∷
+    check 0x0 (part register) (part register) memory 0 load ∷
+    check 0x0 (part register) (part read-address) memory 0 load ∷
+    check 0x0 (part register) (part register) memory 0 no-wait ∷
+    check 0x0 (part register) (part write-address) memory 0 no-wait ∷
+    check 0x0 (part register) (part register) ports 0 input ∷
+    check 0x8000 (part register) (part register) rmw 0 input ∷
+    check 0x0 (part register) (part register) ports 0 no-wait ∷
+    check 0x0 (part register) (part immediate) ports 0 no-wait ∷
     check 0x0 anything anything nothing 0 no-wait ∷
     check 0x0 anything anything ports 0 no-wait ∷
-    check 0x0 register unused nothing 0 no-wait ∷
-    check 0x0 register unused ports 0 no-wait ∷
-    check 0x0 unit entry banks 0 no-wait ∷
-    check 0x0 unused unused nothing 0 no-wait ∷
-    check 0x10000 unused unused banks 0 no-wait ∷
-    check 0x40000 unused unused spr 0 no-wait ∷
-    check 0x50000 unused unused spr 0 no-wait ∷
+    check 0x0 (part register) (part unused) nothing 0 no-wait ∷
+    check 0x0 (part register) (part unused) ports 0 no-wait ∷
+    check 0x0 (part unit) (part entry) banks 0 no-wait ∷
+    check 0x0 (part unused) (part unused) nothing 0 no-wait ∷
+    check 0x10000 (part unused) (part unused) banks 0 no-wait ∷
+    check 0x40000 (part unused) (part unused) spr 0 no-wait ∷
+    check 0x50000 (part unused) (part unused) spr 0 no-wait ∷
     []
 
 -- a row's check, its condition, the form of its immediate and its action, as digits of one number

@@ -8,14 +8,13 @@ use Rattle.laws.specs.Test.{Member}
 use Rattle.laws.specs.Choice.{pick}
 use Rattle.laws.specs.Lists.{column}
 use Rattle.laws.specs.Table.{values}
-use lib.Dec.{eqb}
 use Rattle.words.specs.declared.Config.{Config}
 use Rattle.words.specs.declared.Instruction.{Instruction}
 use Rattle.words.specs.declared.Reading.{Reading}
 use Rattle.words.specs.declared.Reading.the-variants.{Decoded}
 use Rattle.words.specs.declared.Writing.{Writing}
 use Rattle.words.specs.declared.Writing.the-variants.{Encoded}
-use Rattle.words.specs.Parts.{flag, byte, coprocessor}
+use Rattle.words.specs.Parts.{Part, flag, byte, coprocessor, is}
 use Rattle.words.specs.Rows.{Row, rowCount, rowAt}
 use Rattle.words.specs.Classes.{classOf, named}
 use Rattle.words.specs.Words.{Read, Written, readOf, writeOf}
@@ -46,15 +45,15 @@ pub record Writes (c : Config) (i : Instruction) (r : Writing) : Type 0 where
   pub back : (w : ℕ) → r ≡ Encoded w → readOf c w ≡ understood i
 
 -- how many numbers stand in bits 31-23 beside a row's base, by what its number part holds
-abbrev pub numbers : ℕ → ℕ
-numbers p = pick (eqb p byte) 4 (pick (eqb p coprocessor) 32 1)
+abbrev pub numbers : Part → ℕ
+numbers p = pick (is p byte) 4 (pick (is p coprocessor) 32 1)
 
 -- the values of bits 31-23 in the words of a row
 unfoldable pub keys : Row → List ℕ
 keys r =
     let k = r .base / 0x800000 in
     let n = numbers (r .number) in
-    values (λ m. k + m) 0 n ++ pick (eqb (r .flag) flag) (values (λ m. k + 8 + m) 0 n) []
+    values (λ m. k + m) 0 n ++ pick (is (r .flag) flag) (values (λ m. k + 8 + m) 0 n) []
 
 -- The class of each key names exactly the rows whose words have it in bits 31-23.
 abbrev pub ClassesExact : Type 0

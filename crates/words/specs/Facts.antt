@@ -1,51 +1,38 @@
--- What rules, stops, cycles and text ask of an instruction: one record for each row.
-use Prim.Native.Nat.{ℕ, _/_, _%_}
-use mathlib.Core.Bool.{Bool}
-use mathlib.Core.List.{List}
-use lib.Dec.{eqb}
-use lib.ListN.{getD}
+-- What rules, stops and cycles ask of an instruction: the marks of its kind (Kinds), as code hands them on.
+use Prim.Native.Nat.{ℕ}
+use mathlib.Core.Bool.{Bool, false, _||_}
+use mathlib.Core.List.{List, [], _∷_}
+use Rattle.laws.specs.Choice.{decided}
 use Rattle.words.specs.declared.Facts.{Facts}
-use Rattle.words.specs.Kinds.{marksOf}
-use Rattle.words.specs.Rows.{Row, rowAt}
-use Rattle.words.specs.Packed.{noPacked}
+use Rattle.words.specs.Kinds.{Kind, marksOf, Mark, Mark-discrete, goes-on, jumps, calls, returns, enters-mode, leaves-mode, reveals, reads-port, writes-port, loads, stores, by-register, enters-bank, leaves-bank, barred}
+use Rattle.words.specs.Rows.{rowAt}
 
--- whether the mark of weight u is among marks m
-abbrev pub marked : ℕ → ℕ → Bool
-marked u m = eqb (m / u % 2) 1
+-- m is among the marks
+abbrev pub has : List Mark → Mark → Bool
+has [] m = false
+has (x ∷ xs) m = decided (Mark-discrete x m) || has xs m
 
-abbrev pub facts : ℕ → ℕ → ℕ → ℕ → ℕ → Facts
-facts kind operation form condition m =
+unfoldable pub factsFor : Kind → Facts
+factsFor k =
+    let ms = marksOf k in
     record {
-      kind = kind;
-      operation = operation;
-      form = form;
-      condition = condition;
-      next = marked 1 m;
-      target = marked 2 m;
-      calls = marked 4 m;
-      returns = marked 8 m;
-      enters = marked 16 m;
-      leaves = marked 32 m;
-      reveals = marked 64 m;
-      input = marked 128 m;
-      output = marked 256 m;
-      load = marked 512 m;
-      store = marked 1024 m;
-      indirect = marked 2048 m;
-      tobank = marked 4096 m;
-      frombank = marked 8192 m;
-      barred = marked 16384 m;
+      next = has ms goes-on;
+      target = has ms jumps;
+      calls = has ms calls;
+      returns = has ms returns;
+      enters = has ms enters-mode;
+      leaves = has ms leaves-mode;
+      reveals = has ms reveals;
+      input = has ms reads-port;
+      output = has ms writes-port;
+      load = has ms loads;
+      store = has ms stores;
+      indirect = has ms by-register;
+      tobank = has ms enters-bank;
+      frombank = has ms leaves-bank;
+      barred = has ms barred;
     }
 
--- the facts of a row: its columns, and the marks of its kind (Kinds)
-unfoldable pub factsOf : ℕ → Facts
-factsOf n = let r = rowAt n in facts (r .kind) (r .operation) (r .form) (r .condition) (marksOf (r .kind))
-
--- the facts in a row's packed number
-abbrev pub factsIn : ℕ → Facts
-factsIn p =
-    facts (p / 0x1000000 % 256) (p / 0x100000000 % 256) (p / 0x10000000000 % 16) (p / 0x100000000000 % 16) (p / 0x1000000000000)
-
--- the facts of row n by a lent table, whatever it holds. With `rowTable` they are `factsOf` (proofs/Lent.antt, `facts-lent`).
-unfoldable pub factsLent : List ℕ → ℕ → Facts
-factsLent packs n = factsIn (getD packs n noPacked)
+-- of row n
+abbrev pub factsOf : ℕ → Facts
+factsOf n = factsFor (rowAt n .kind)

@@ -6,6 +6,7 @@ pub mod Numbers
 pub mod Classes
 pub mod Words
 pub mod Answers
+pub mod Codes
 pub mod Packed
 pub mod Facts
 pub mod Actions

@@ -11,12 +11,11 @@ use Rattle.laws.specs.Test.{test, imp}
 use Rattle.laws.specs.Table.{values}
 use Rattle.words.specs.declared.Config.{Config}
 use Rattle.words.specs.declared.Instruction.{Instruction}
-use Rattle.words.specs.declared.Facts.{Facts}
-use Rattle.words.specs.Parts.{unused, count, never, limit, available}
-use Rattle.words.specs.Kinds.{unsupported, none, no-form, signed, unsigned, shifted, marksOf}
+use Rattle.words.specs.Parts.{unused, count, never, is, available}
+use Rattle.words.specs.Kinds.{Kind, unsupported}
 use Rattle.words.specs.Classes.{classOf, rowOf}
-use Rattle.words.specs.Facts.{facts}
-use Rattle.words.specs.Actions.{by-entry, flag′, destination′, source′, number′, value′, target′, unit′, Action, action, actions, anything, no-wait, input, load, Check, check, checks, entries}
+use Rattle.words.specs.Codes.{formAt, conditionAt, limitOf}
+use Rattle.words.specs.Actions.{flag′, destination′, source′, number′, value′, target′, unit′, Action, action, actions, Side, anything, part, no-wait, input, load, Check, check, checks, entries}
 
 -- Entries
 
@@ -31,31 +30,25 @@ unfoldable pub entryOf : ℕ → ℕ
 entryOf w = entryAt (rowOf (classOf (w / 0x800000)) (w % 0x800000))
 
 unfoldable pub actionAt : ℕ → Action
-actionAt a = getD actions a (action unsupported none no-form 0)
+actionAt a = getD actions a (action (λ f c. unsupported) 0)
 
--- the form of the immediate in an entry
-unfoldable pub immediateIn : ℕ → ℕ
-immediateIn e = pick (eqb (e / 4096 % 4) 0) signed (pick (eqb (e / 4096 % 4) 1) unsigned shifted)
+-- the kind of action a where entry e has the form of its immediate, or its condition
+abbrev pub actionKind : ℕ → ℕ → Kind
+actionKind a e = actionAt a .does (formAt (e / 4096 % 4)) (conditionAt (e / 256 % 16))
 
-unfoldable pub formOf : ℕ → ℕ → ℕ
-formOf a e = pick (eqb (actionAt a .form) by-entry) (immediateIn e) (actionAt a .form)
-
-abbrev pub actionFacts : ℕ → ℕ → Facts
-actionFacts a e =
-    facts (actionAt a .kind) (actionAt a .operation) (formOf a e) (e / 256 % 16) (marksOf (actionAt a .kind))
-
--- the facts of an entry
-abbrev pub entryFacts : ℕ → Facts
-entryFacts e = actionFacts (e / 0x4000000) e
+-- the kind of an entry
+abbrev pub entryKind : ℕ → Kind
+entryKind e = actionKind (e / 0x4000000) e
 
 -- Limits
 
 unfoldable pub checkAt : ℕ → Check
-checkAt t = getD checks t (check 0 unused unused never 0 no-wait)
+checkAt t = getD checks t (check 0 (part unused) (part unused) never 0 no-wait)
 
--- what a part that holds p stays below; `all` is how many values its place has. At level 0 a shift count is left to the exact verdict.
-unfoldable pub limitIn : Config → ℕ → ℕ → ℕ
-limitIn c all p = pick (eqb p anything) all (pick (eqb p count && eqb (c .alulevel) 0) 0 (limit c p))
+-- what a side stays below; `all` is how many values its place has. At level 0 a shift count is left to the exact verdict.
+unfoldable pub limitIn : Config → ℕ → Side → ℕ
+limitIn c all anything = all
+limitIn c all (part p) = pick (is p count && eqb (c .alulevel) 0) 0 (limitOf c p)
 
 -- what bits 22-16 of a word stay below by check k: 0, so that no word passes, where its option is off, or a byte number is left to the exact verdict
 unfoldable pub upperLimit : Config → Check → ℕ

@@ -1,6 +1,7 @@
 -- The tables that code holds: the classes, the rows' bases, and the rows' other columns packed into one number each.
 use Prim.Native.Nat.{ℕ, _+_, _*_, _/_, _%_, _^_}
 use mathlib.Core.Path.{_≡_}
+use mathlib.Core.Bool.{Bool}
 use mathlib.Core.List.{List, [], _∷_}
 use lib.Dec.{eqb}
 use lib.ListN.{getD}
@@ -9,42 +10,62 @@ use Rattle.laws.specs.Lists.{column}
 use Rattle.laws.specs.Table.{values}
 use Rattle.words.specs.declared.Config.{Config}
 use Rattle.words.specs.declared.Instruction.{Instruction}
-use Rattle.words.specs.Kinds.{marksOf}
+use Rattle.words.specs.declared.Facts.{Facts}
+use Rattle.words.specs.Kinds.{Kind, marksOf}
+use Rattle.words.specs.Codes.{partCode, partAt, optionCode, optionAt, weights}
 use Rattle.words.specs.Numbers.{CLZ}
-use Rattle.words.specs.Rows.{Row, noRow, rows}
+use Rattle.words.specs.Rows.{Row, rows, rowAt}
 use Rattle.words.specs.Classes.{none, classOf, rowOf}
 use Rattle.words.specs.Words.{fieldsIn, spread, Read, readBy}
 
--- hex digits from the right: flag, number, destination, source, value, option; two for the kind, two for the operation; form, condition; then the
--- marks of the kind
+-- hex digits from the right: flag, number, destination, source, value, option; then the marks of the kind
 unfoldable pub packed : Row → ℕ
 packed r =
-    r .flag +
-    0x10 * r .number +
-    0x100 * r .destination +
-    0x1000 * r .source +
-    0x10000 * r .value +
-    0x100000 * r .option +
-    0x1000000 * r .kind +
-    0x100000000 * r .operation +
-    0x10000000000 * r .form +
-    0x100000000000 * r .condition +
-    0x1000000000000 * marksOf (r .kind)
+    partCode (r .flag) +
+    0x10 * partCode (r .number) +
+    0x100 * partCode (r .destination) +
+    0x1000 * partCode (r .source) +
+    0x10000 * partCode (r .value) +
+    0x100000 * optionCode (r .option) +
+    0x1000000 * weights (marksOf (r .kind))
 
-abbrev pub unpack : ℕ → ℕ → Row
-unpack base p =
+-- the kind is not in the packed number: no code asks for it
+abbrev pub unpack : ℕ → ℕ → Kind → Row
+unpack base p kind =
     record {
       base = base;
-      flag = p % 16;
-      number = p / 0x10 % 16;
-      destination = p / 0x100 % 16;
-      source = p / 0x1000 % 16;
-      value = p / 0x10000 % 16;
-      option = p / 0x100000 % 16;
-      kind = p / 0x1000000 % 256;
-      operation = p / 0x100000000 % 256;
-      form = p / 0x10000000000 % 16;
-      condition = p / 0x100000000000 % 16;
+      flag = partAt (p % 16);
+      number = partAt (p / 0x10 % 16);
+      destination = partAt (p / 0x100 % 16);
+      source = partAt (p / 0x1000 % 16);
+      value = partAt (p / 0x10000 % 16);
+      option = optionAt (p / 0x100000 % 16);
+      kind = kind;
+    }
+
+-- whether the mark of weight u is among those packed in p
+abbrev pub marked : ℕ → ℕ → Bool
+marked u p = eqb (p / 0x1000000 / u % 2) 1
+
+-- the facts in a row's packed number
+abbrev pub factsIn : ℕ → Facts
+factsIn p =
+    record {
+      next = marked 1 p;
+      target = marked 2 p;
+      calls = marked 4 p;
+      returns = marked 8 p;
+      enters = marked 16 p;
+      leaves = marked 32 p;
+      reveals = marked 64 p;
+      input = marked 128 p;
+      output = marked 256 p;
+      load = marked 512 p;
+      store = marked 1024 p;
+      indirect = marked 2048 p;
+      tobank = marked 4096 p;
+      frombank = marked 8192 p;
+      barred = marked 16384 p;
     }
 
 -- what stands for a row past the table's end: noRow, packed
@@ -76,7 +97,11 @@ pub record Tables (classes bases packs : List ℕ) : Type 0 where
 
 -- the row of number n by lent tables
 unfoldable pub rowLent : List ℕ → List ℕ → ℕ → Row
-rowLent bases packs n = unpack (getD bases n 0) (getD packs n noPacked)
+rowLent bases packs n = unpack (getD bases n 0) (getD packs n noPacked) (rowAt n .kind)
+
+-- the facts of row n by a lent table, whatever it holds. With `rowTable` they are `factsOf` (proofs/Lent.antt, `facts-lent`).
+unfoldable pub factsLent : List ℕ → ℕ → Facts
+factsLent packs n = factsIn (getD packs n noPacked)
 
 -- the row of word w by lent classes
 unfoldable pub numberLent : List ℕ → ℕ → ℕ

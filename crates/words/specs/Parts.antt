@@ -1,134 +1,78 @@
--- What a part of a word may hold, with its limit, and the options a row may need, each with its test: document 01's refusals 7 and 6.
+-- What a part of a word may hold, with its range, and the options a row may need, each with its test: document 01's refusals 7 and 6.
 use Prim.Native.Nat.{ℕ, _/_}
-use mathlib.Core.Bool.{true, false, _&&_}
-use mathlib.Core.List.{List, [], _∷_}
+use mathlib.Core.Bool.{Bool, true, false}
 use lib.Dec.{eqb}
-use lib.ListN.{getD}
-use Rattle.laws.specs.Test.{Test, less, same, yes?, _and_}
-use Rattle.laws.specs.Table.{values}
+use Rattle.laws.specs.Choice.{decided}
+use Rattle.laws.specs.Test.{Test, less, same, yes?, if?, _and_}
 use Rattle.words.specs.declared.Config.{Config}
 
 -- what a part holds
+pub data Part : Type 0 where
+  unused : Part  -- nothing: the part is zero
+  flag : Part  -- bit 26 of an ALU word
+  byte : Part  -- byte number
+  coprocessor : Part  -- COP's bits 27-23
+  register : Part  -- register, or LDYX's index
+  unit : Part  -- JSRWP's WP/16
+  mask : Part  -- interrupt mask
+  immediate : Part  -- 16-bit immediate
+  read-address : Part  -- direct data address that is read
+  write-address : Part  -- direct data address that is written
+  target : Part  -- target of JMP or JSR
+  count : Part  -- shift count
+  entry : Part  -- JSRWP address
+  short : Part  -- 8-bit immediate
+  deriving Discrete as Part-discrete
 
-abbrev pub unused : ℕ  -- nothing: the part is zero
-unused = 0
+abbrev pub is : Part → Part → Bool
+is p q = decided (Part-discrete p q)
 
-abbrev pub flag : ℕ  -- bit 26 of an ALU word
-flag = 1
-
-abbrev pub byte : ℕ  -- byte number
-byte = 2
-
-abbrev pub coprocessor : ℕ  -- COP's bits 27-23
-coprocessor = 3
-
-abbrev pub register : ℕ  -- register, or LDYX's index
-register = 4
-
-abbrev pub unit : ℕ  -- JSRWP's WP/16
-unit = 5
-
-abbrev pub mask : ℕ  -- interrupt mask
-mask = 6
-
-abbrev pub immediate : ℕ  -- 16-bit immediate
-immediate = 7
-
-abbrev pub read-address : ℕ  -- direct data address that is read
-read-address = 8
-
-abbrev pub write-address : ℕ  -- direct data address that is written
-write-address = 9
-
-abbrev pub target : ℕ  -- target of JMP or JSR
-target = 10
-
-abbrev pub count : ℕ  -- shift count
-count = 11
-
-abbrev pub entry : ℕ  -- JSRWP address
-entry = 12
-
-abbrev pub short : ℕ  -- 8-bit immediate
-short = 13
-
--- What each stays below: "register ≥ REG_SIZE, direct data address ≥ DM_SIZE, immediate shift count out of range, byte number with 8N+7 ≥ W,
--- WP unit above 63, an unused bit or part not zero, or a value to be written too wide for its field" (7).
-abbrev pub limits : Config → List ℕ
-limits c =
-    1 ∷  -- unused
-    2 ∷  -- flag
-    c .regwidth / 8 ∷  -- byte
-    32 ∷  -- coprocessor
-    c .regsize ∷  -- register
-    64 ∷  -- unit
-    16 ∷  -- mask
-    65536 ∷  -- immediate
-    c .dmsize ∷  -- read-address
-    c .dmsize ∷  -- write-address
-    0x800000 ∷  -- target
-    16 ∷  -- count
-    65536 ∷  -- entry
-    256 ∷  -- short
-    []
-
-unfoldable pub limit : Config → ℕ → ℕ
-limit c p = getD (limits c) p 0
-
--- the limits as a table with a place for each hex digit
-unfoldable pub limitTable : Config → List ℕ
-limitTable c = values (limit c) 0 16
+-- "register ≥ REG_SIZE, direct data address ≥ DM_SIZE, immediate shift count out of range, byte number with 8N+7 ≥ W, WP unit above 63, an unused bit or
+-- part not zero, or a value to be written too wide for its field" (7)
+unfoldable pub inRange : Config → Part → ℕ → Test
+inRange c unused v = same v 0
+inRange c flag v = less v 2
+inRange c byte v = less v (c .regwidth / 8)
+inRange c coprocessor v = less v 32
+inRange c register v = less v (c .regsize)
+inRange c unit v = less v 64
+inRange c mask v = less v 16
+inRange c immediate v = less v 65536
+inRange c read-address v = less v (c .dmsize)
+inRange c write-address v = less v (c .dmsize)
+inRange c target v = less v 0x800000
+inRange c count v = less v 16 and if? (eqb (c .alulevel) 0) (same v 1)  -- "immediate, 0 to 15, at level 0 only 1"
+inRange c entry v = less v 65536
+inRange c short v = less v 256
 
 -- the option that a row needs
+pub data Option : Type 0 where
+  nothing : Option
+  mult : Option
+  level1 : Option
+  level2 : Option
+  level2-memory : Option
+  memory : Option
+  ports : Option
+  rmw : Option
+  banks : Option
+  spr : Option
+  never : Option  -- unsupported
+  deriving Discrete as Option-discrete
 
-abbrev pub nothing : ℕ
-nothing = 0
-
-abbrev pub mult : ℕ
-mult = 1
-
-abbrev pub level1 : ℕ
-level1 = 2
-
-abbrev pub level2 : ℕ
-level2 = 3
-
-abbrev pub level2-memory : ℕ
-level2-memory = 4
-
-abbrev pub memory : ℕ
-memory = 5
-
-abbrev pub ports : ℕ
-ports = 6
-
-abbrev pub rmw : ℕ
-rmw = 7
-
-abbrev pub banks : ℕ
-banks = 8
-
-abbrev pub spr : ℕ
-spr = 9
-
-abbrev pub never : ℕ
-never = 10
+abbrev pub needs : Option → Option → Bool
+needs o q = decided (Option-discrete o q)
 
 -- "row needs an option that is off" (6)
-abbrev pub options : Config → List Test
-options c =
-    yes? true ∷  -- nothing
-    same (c .alumult) 1 ∷  -- mult
-    less 0 (c .alulevel) ∷  -- level1
-    less 1 (c .alulevel) ∷  -- level2
-    (less 1 (c .alulevel) and less 0 (c .dmsize)) ∷  -- level2-memory
-    less 0 (c .dmsize) ∷  -- memory
-    same (c .iopif) 1 ∷  -- ports
-    same (c .ioprmw) 1 ∷  -- rmw
-    less (c .regsize) (c .rmsize) ∷  -- banks
-    same (c .aluspr) 1 ∷  -- spr
-    yes? false ∷  -- never
-    []
-
-unfoldable pub available : Config → ℕ → Test
-available c o = getD (options c) o (yes? false)
+unfoldable pub available : Config → Option → Test
+available c nothing = yes? true
+available c mult = same (c .alumult) 1
+available c level1 = less 0 (c .alulevel)
+available c level2 = less 1 (c .alulevel)
+available c level2-memory = less 1 (c .alulevel) and less 0 (c .dmsize)
+available c memory = less 0 (c .dmsize)
+available c ports = same (c .iopif) 1
+available c rmw = same (c .ioprmw) 1
+available c banks = less (c .regsize) (c .rmsize)
+available c spr = same (c .aluspr) 1
+available c never = yes? false

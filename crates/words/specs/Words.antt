@@ -1,31 +1,30 @@
 -- Reading and writing a word: document 01, 'Words', and the refusals 1, 5, 6 and 7 in their order.
 use Prim.Native.Nat.{ℕ, _+_, _-_, _*_, _/_, _%_}
-use mathlib.Core.Bool.{Bool, _&&_}
 use mathlib.Core.List.{List, [], _∷_}
 use lib.Dec.{eqb}
 use Rattle.laws.specs.Choice.{pick}
-use Rattle.laws.specs.Test.{Test, less, same, if?, _and_}
+use Rattle.laws.specs.Test.{Test, less, _and_}
 use Rattle.laws.specs.First.{first-failing}
 use Rattle.words.specs.declared.Config.{Config}
 use Rattle.words.specs.declared.Fields.{Fields}
 use Rattle.words.specs.declared.Instruction.{Instruction}
 use Rattle.words.specs.Configs.{lawful}
-use Rattle.words.specs.Parts.{unused, flag, target, count, limit, available}
+use Rattle.words.specs.Parts.{Part, unused, flag, target, is, inRange, available}
 use Rattle.words.specs.Rows.{Row, rowCount, rowAt}
 use Rattle.words.specs.Classes.{classOf, rowOf}
 
 -- Fields of a word
 
 -- bit 26 of key k (bits 31-23), where the flag part holds p
-unfoldable pub flagIn : ℕ → ℕ → ℕ
-flagIn p k = pick (eqb p flag) (k / 8 % 2) 0
+unfoldable pub flagIn : Part → ℕ → ℕ
+flagIn p k = pick (is p flag) (k / 8 % 2) 0
 
 -- what stands in bits 22-0, the row's code taken off: two fields, an upper field and a value, or a value alone (manual 5.17.1)
 pub data Layout : Type 0 where
   registers upper-value whole : Layout
 
-unfoldable pub layoutOf : ℕ → Layout
-layoutOf v = pick (eqb v unused) registers (pick (eqb v target) whole upper-value)
+unfoldable pub layoutOf : Part → Layout
+layoutOf v = pick (is v unused) registers (pick (is v target) whole upper-value)
 
 unfoldable pub upperIn : Layout → ℕ → ℕ
 upperIn registers f = f / 65536
@@ -85,18 +84,13 @@ gather i =
 
 -- The verdict on an instruction's parts, for reading and writing alike
 
--- "immediate, 0 to 15, at level 0 only 1"
-abbrev pub shiftCount : ℕ → ℕ → ℕ → Test
-shiftCount level p v = if? (eqb p count && eqb level 0) (same v 1)
-
 unfoldable pub fits : Config → Row → Instruction → Test
 fits c r i =
-    less (i .flag) (limit c (r .flag)) and
-    less (i .number) (limit c (r .number)) and
-    less (i .destination) (limit c (r .destination)) and
-    less (i .source) (limit c (r .source)) and
-    less (i .value) (limit c (r .value)) and
-    shiftCount (c .alulevel) (r .value) (i .value)
+    inRange c (r .flag) (i .flag) and
+    inRange c (r .number) (i .number) and
+    inRange c (r .destination) (i .destination) and
+    inRange c (r .source) (i .source) and
+    inRange c (r .value) (i .value)
 
 -- 5 "no row for the word, or for the parts to be written", 6 "row needs an option that is off", 7; r is the row that i names
 unfoldable pub refusals567 : Config → Row → Instruction → List (ℕ × Test)

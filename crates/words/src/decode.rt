@@ -4,6 +4,8 @@ ghost use Prim.Native.Nat.{_-_, _%_, _<_};
 ghost use Rattle.words.specs.Answers.{readingOf, judged};
 ghost use Rattle.words.specs.Claims.{Reads};
 ghost use Rattle.words.specs.Lookup.{belowLent};
+ghost use Rattle.words.specs.Kinds.{unsupported};
+ghost use Rattle.words.specs.Codes.{partAt};
 ghost use Rattle.words.specs.Packed.{unpack, numberLent, partsLent, readLent};
 ghost use Rattle.words.specs.Words.{flagIn, fieldsIn, spread, readLawful};
 use crate::Config;
@@ -35,7 +37,7 @@ fn less(a: u32, b: u32) -> u32
 
 // Bit 26 of key k, where the row has a flag.
 fn flag_in(p: u64, k: u32) -> u32
-    ensures { λ r. ⌜ (r ≡ flagIn (p % 16) k) × (r < 2) ⌝ }
+    ensures { λ r. ⌜ (r ≡ flagIn (partAt (p % 16)) k) × (r < 2) ⌝ }
 {
     let holds = flag_digit(p);
     if holds == 1 { k / 8 % 2 } else { 0 }
@@ -43,7 +45,7 @@ fn flag_in(p: u64, k: u32) -> u32
 
 // The fields of a word of row n: k is bits 31-23, f bits 22-0.
 fn fields_in(n: u32, base: u32, p: u64, k: u32, f: u32) -> Fields
-    ensures { λ r. ⌜ r ≡ fieldsIn n (unpack base p) k f ⌝ }
+    ensures { λ r. ⌜ r ≡ fieldsIn n (unpack base p unsupported) k f ⌝ }
 {
     let rest = less(f, base % 8388608);
     let flag = flag_in(p, k);

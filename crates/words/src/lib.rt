@@ -10,7 +10,6 @@ pub mod decode;
 pub mod encode;
 pub mod entries;
 mod keyed;
-pub mod kinds;
 pub mod meaning;
 pub mod numbers;
 mod rows;
@@ -119,10 +118,6 @@ pub enum Writing {
 
 // What rules, stops, cycles and text ask of an instruction (specs/Facts.antt).
 pub struct Facts {
-    pub kind: u32,
-    pub operation: u32,
-    pub form: u32,
-    pub condition: u32,
     pub next: bool,
     pub target: bool,
     pub calls: bool,

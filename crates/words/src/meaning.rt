@@ -1,8 +1,8 @@
 // The facts of a row: what rules, stops, cycles and text ask of its instructions.
 ghost use mathlib.Core.Path.{_≡_};
 ghost use lib.ListN.{getD};
-ghost use Rattle.words.specs.Facts.{factsOf, factsIn, factsLent};
-ghost use Rattle.words.specs.Packed.{noPacked};
+ghost use Rattle.words.specs.Facts.{factsOf};
+ghost use Rattle.words.specs.Packed.{noPacked, factsIn, factsLent};
 use crate::Facts;
 use crate::rows::digit;
 use crate::rows::packed_at;
@@ -12,12 +12,8 @@ use crate::tables::row_table;
 pub fn facts_in(p: u64) -> Facts
     ensures { λ r. ⌜ r ≡ factsIn p ⌝ }
 {
-    let m = p / 0x1000000000000;
+    let m = p / 0x1000000;
     Facts {
-        kind: (p / 0x1000000 % 256) as u32,
-        operation: (p / 0x100000000 % 256) as u32,
-        form: (p / 0x10000000000 % 16) as u32,
-        condition: (p / 0x100000000000 % 16) as u32,
         next: m / 1 % 2 == 1,
         target: m / 2 % 2 == 1,
         calls: m / 4 % 2 == 1,

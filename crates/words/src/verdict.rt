@@ -1,17 +1,19 @@
 // The verdict on an instruction's parts, for reading and writing alike: refusals 6 and 7.
 ghost use mathlib.Core.Path.{_≡_};
-ghost use lib.ListN.{getD};
 ghost use Rattle.laws.specs.Test.{test};
-ghost use Rattle.words.specs.Parts.{limitTable, available};
+ghost use Rattle.words.specs.Parts.{inRange, available};
+ghost use Rattle.words.specs.Kinds.{unsupported};
+ghost use Rattle.words.specs.Codes.{partAt, optionAt};
 ghost use Rattle.words.specs.Packed.{unpack};
-ghost use Rattle.words.specs.Words.{shiftCount, fits};
+ghost use Rattle.words.specs.Words.{fits};
 use crate::Config;
 use crate::Instruction;
 use crate::rows::digit;
+use crate::rows::flag_digit;
 
 // Whether the configuration has the option that a row needs.
 pub fn available_in(c: Config, option: u32) -> bool
-    ensures { λ r. ⌜ r ≡ test (available c option) ⌝ }
+    ensures { λ r. ⌜ r ≡ test (available c (optionAt option)) ⌝ }
 {
     let options = [
         true,
@@ -30,51 +32,36 @@ pub fn available_in(c: Config, option: u32) -> bool
     if at < 11 { options[at] } else { false }
 }
 
-// What a part stays below, by what it holds; past the last, 0.
-fn limit_table(c: Config) -> [u32; 16]
-    ensures { λ r. ⌜ r ≡ limitTable c ⌝ }
+// Whether v is in the range of what a part holds.
+fn in_range(c: Config, part: u32, v: u32) -> bool
+    ensures { λ r. ⌜ r ≡ test (inRange c (partAt part) v) ⌝ }
 {
-    [
-        1,
-        2,
-        c.regwidth / 8,
-        32,
-        c.regsize,
-        64,
-        16,
-        65536,
-        c.dmsize,
-        c.dmsize,
-        8388608,
-        16,
-        65536,
-        256,
-        0,
-        0,
-    ]
-}
-
-// At level 0 a shift is by 1.
-fn count_fits(level: u32, part: u32, v: u32) -> bool
-    ensures { λ r. ⌜ r ≡ test (shiftCount level part v) ⌝ }
-{
-    !((part == 11) & (level == 0)) | (v == 1)
+    match part {
+        0 => v == 0,
+        1 => v < 2,
+        2 => v < c.regwidth / 8,
+        3 => v < 32,
+        4 => v < c.regsize,
+        5 => v < 64,
+        6 => v < 16,
+        7 => v < 65536,
+        8 => v < c.dmsize,
+        9 => v < c.dmsize,
+        10 => v < 8388608,
+        11 => (v < 16) & (!(c.alulevel == 0) | (v == 1)),
+        12 => v < 65536,
+        _ => v < 256,
+    }
 }
 
 // Whether each part is in the range that the row, packed in p, gives it.
 pub fn parts_fit(c: Config, p: u64, i: Instruction) -> bool
-    ensures { λ r. ⌜ r ≡ test (fits c (unpack 0 p) i) ⌝ }
+    ensures { λ r. ⌜ r ≡ test (fits c (unpack 0 p unsupported) i) ⌝ }
 {
-    let limits = limit_table(c);
-    let flag = limits[(p % 16) as usize];
-    let number = limits[(p / 0x10 % 16) as usize];
-    let destination = limits[(p / 0x100 % 16) as usize];
-    let source = limits[(p / 0x1000 % 16) as usize];
-    let holds = digit(p, 0x10000);
-    let value = limits[holds as usize];
-    let counted = count_fits(c.alulevel, holds, i.value);
-    (i.flag < flag)
-        & ((i.number < number)
-            & ((i.destination < destination)
-                & ((i.source < source) & ((i.value < value) & counted))))
+    let flag = in_range(c, flag_digit(p), i.flag);
+    let number = in_range(c, digit(p, 0x10), i.number);
+    let destination = in_range(c, digit(p, 0x100), i.destination);
+    let source = in_range(c, digit(p, 0x1000), i.source);
+    let value = in_range(c, digit(p, 0x10000), i.value);
+    flag & (number & (destination & (source & value)))
 }

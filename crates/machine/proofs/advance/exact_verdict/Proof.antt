@@ -15,11 +15,11 @@ returns c = c .number .ensures ∙ refused-verdict (c .before .before .before .b
 
 returns-2 : tie.Need-returns-2
 unfolding pick
-returns-2 c = read-verdict (c .before .before .before .before .before .before .before .before .before .before .args .c) (c .before .before .before .before .before .before .before .before .before .before .args .w) (c .before .before .before .before .before .before .before .before .before .before .args .mode) _ _ _ (read-lent _ _ _ _ _ _ (c .before .before .before .before .before .before .before .before .before .before .pre) (omega arith) (ap readingOf (sym (c .before .before .before .before .r2 .given .1)) ∙ c .before .before .before .before .before .before .read-word-lent .ensures)) (facts-in _ _ _ (c .before .before .before .before .before .before .before .before .before .before .pre .packs-right) (c .before .before .packed-lent .ensures)) (sym (c .before .allowed .ensures) ∙ c .if1 .taken)
+returns-2 c = read-verdict (c .before .before .before .before .before .before .before .before .before .before .args .c) (c .before .before .before .before .before .before .before .before .before .before .args .w) (c .before .before .before .before .before .before .before .before .before .before .args .mode) _ (c .before .before .packed-lent .result) _ (read-lent _ _ _ _ _ _ (c .before .before .before .before .before .before .before .before .before .before .pre) (omega arith) (ap readingOf (sym (c .before .before .before .before .r2 .given .1)) ∙ c .before .before .before .before .before .before .read-word-lent .ensures)) (facts-in _ (c .before .before .packed-lent .result) _ (c .before .before .before .before .before .before .before .before .before .before .pre .packs-right) (c .before .before .packed-lent .ensures)) (sym (c .before .allowed .ensures) ∙ c .if1 .taken)
 
 returns-3 : tie.Need-returns-3
 unfolding pick
-returns-3 c = read-verdict (c .before .before .before .before .before .before .before .before .before .before .args .c) (c .before .before .before .before .before .before .before .before .before .before .args .w) (c .before .before .before .before .before .before .before .before .before .before .args .mode) _ _ _ (read-lent _ _ _ _ _ _ (c .before .before .before .before .before .before .before .before .before .before .pre) (omega arith) (ap readingOf (sym (c .before .before .before .before .r2 .given .1)) ∙ c .before .before .before .before .before .before .read-word-lent .ensures)) (facts-in _ _ _ (c .before .before .before .before .before .before .before .before .before .before .pre .packs-right) (c .before .before .packed-lent .ensures)) (sym (c .before .allowed .ensures) ∙ c .if1 .left)
+returns-3 c = read-verdict (c .before .before .before .before .before .before .before .before .before .before .args .c) (c .before .before .before .before .before .before .before .before .before .before .args .w) (c .before .before .before .before .before .before .before .before .before .before .args .mode) _ (c .before .before .packed-lent .result) _ (read-lent _ _ _ _ _ _ (c .before .before .before .before .before .before .before .before .before .before .pre) (omega arith) (ap readingOf (sym (c .before .before .before .before .r2 .given .1)) ∙ c .before .before .before .before .before .before .read-word-lent .ensures)) (facts-in _ (c .before .before .packed-lent .result) _ (c .before .before .before .before .before .before .before .before .before .before .pre .packs-right) (c .before .before .packed-lent .ensures)) (sym (c .before .allowed .ensures) ∙ c .if1 .left)
 
 pub exact-verdict-spec : {M : Type 1} → statement M
 exact-verdict-spec =

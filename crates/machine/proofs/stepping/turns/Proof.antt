@@ -117,4 +117,4 @@ returns-3 c = reached-done _ _ _ _ _ (c .before .loop .inv .0) (c .before .befor
 pub turns-spec : {M : Type 1} → statement M
 turns-spec =
     tie.close
-    (tie.spec Inv-loop μ-loop (λ c κs. search needs) (λ c κs. search needs) (λ c κs. search needs) (λ c κs. search needs) (λ c κs. search needs) (λ c κs. search needs) (λ c κs. search needs) (λ c κs. search needs) loop-holds (λ c. search needs) (λ c. search needs) (λ c. search needs) (λ c. search needs) sub-share (λ c κs. search needs) stretch-requires add-cycles add-done same-length same-length-2 same-length-3 same-length-4 same-length-5 returns loop-less loop-again slice-aggregate-exact-number slice-aggregate-exact-number-2 slice-aggregate-exact-number-3 exact-number-requires same-length-6 same-length-7 same-length-8 same-length-9 same-length-10 returns-2 loop-less-2 loop-again-2 same-length-11 same-length-12 same-length-13 same-length-14 same-length-15 returns-3)
+    (tie.spec Inv-loop μ-loop (λ c κs. tt) (λ c κs. tt) (λ c κs. tt) (λ c κs. tt) (λ c κs. tt) (λ c κs. tt) (λ c κs. tt) (λ c κs. tt) loop-holds (λ c. search needs) (λ c. search needs) (λ c. search needs) (λ c. search needs) sub-share (λ c κs. tt) stretch-requires add-cycles add-done same-length same-length-2 same-length-3 same-length-4 same-length-5 returns loop-less loop-again slice-aggregate-exact-number slice-aggregate-exact-number-2 slice-aggregate-exact-number-3 exact-number-requires same-length-6 same-length-7 same-length-8 same-length-9 same-length-10 returns-2 loop-less-2 loop-again-2 same-length-11 same-length-12 same-length-13 same-length-14 same-length-15 returns-3)

@@ -6,7 +6,11 @@ use lib.Dec.{eqb}
 use Rattle.laws.specs.Choice.{pick}
 use Rattle.words.specs.declared.Fields.{Fields}
 use Rattle.words.specs.Words.{Layout, registers, upper-value, whole, flagIn, layoutOf, upperIn, lowerIn, valueIn, fieldsIn}
+use native.Mathlib.Omega.{arith}
+use Rattle.words.specs.Kinds.{unsupported}
+use Rattle.words.specs.Codes.{partAt}
 use Rattle.words.specs.Packed.{unpack}
+use Rattle.words.proofs.Coded.{unused-code, target-code}
 use borrow.Author.Needs.{needs}
 use Rattle.words.proofs.decode.fields_in.Statement.{statement}
 use Rattle.words.proofs.decode.fields_in.Tie as tie
@@ -33,14 +37,14 @@ value-by true b f = refl
 value-by false true f = refl
 value-by false false f = refl
 
-laid : (n base p k f rest flag number h u upper lower v value : ℕ) → rest ≡ f - base % 0x800000 → flag ≡ flagIn (p % 16) k →
+laid : (n base p k f rest flag number h u upper lower v value : ℕ) → rest ≡ f - base % 0x800000 → flag ≡ flagIn (partAt (p % 16)) k →
     number ≡ k - (base / 0x800000 + 8 * flag) → h ≡ p / 0x10000 % 16 → u ≡ pick (eqb h 10) 0 (rest / 65536) → upper ≡ pick (eqb h 0) (rest / 65536) u →
     lower ≡ pick (eqb h 0) (rest % 65536) 0 → v ≡ pick (eqb h 10) rest (rest % 65536) → value ≡ pick (eqb h 0) 0 v →
     _≡_ {A = Fields} (record { row = n; flag = flag; number = number; upper = upper; lower = lower; value = value })
-    (fieldsIn n (unpack base p) k f)
+    (fieldsIn n (unpack base p unsupported) k f)
 unfolding fieldsIn layoutOf
 laid n base p k f rest flag number h u upper lower v value er ef en eh eu eupper elower ev evalue =
-    rw (evalue, ev, elower, eupper, eu, upper-by (eqb h 0) (eqb h 10) rest, lower-by (eqb h 0) (eqb h 10) rest, value-by (eqb h 0) (eqb h 10) rest, en, ef, eh, er)
+    rw (evalue, ev, elower, eupper, eu, upper-by (eqb h 0) (eqb h 10) rest, lower-by (eqb h 0) (eqb h 10) rest, value-by (eqb h 0) (eqb h 10) rest, en, ef, eh, er, ← unused-code (p / 0x10000 % 16) (omega arith), ← target-code (p / 0x10000 % 16) (omega arith))
 
 returns : tie.Need-returns
 returns c = laid _ _ _ _ _ _ _ _ _ _ _ _ _ _ (c .before .before .before .before .before .before .before .before .less .ensures) (c .before .before .before .before .before .before .before .flag-in .ensures .0) (c .before .before .before .before .before .before .less2 .ensures) (c .before .before .before .before .before .digit .ensures) (c .before .before .before .before .pick .ensures) (c .before .before .before .pick2 .ensures) (c .before .before .pick3 .ensures) (c .before .pick4 .ensures) (c .pick5 .ensures)

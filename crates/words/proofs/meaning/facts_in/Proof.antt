@@ -1,7 +1,6 @@
 -- `words::meaning::facts_in` meets its contract. Assumes nothing.
 use mathlib.Core.Path.{refl}
-use Rattle.words.specs.Facts.{factsIn}
-use borrow.Author.Needs.{needs}
+use Rattle.words.specs.Packed.{factsIn}
 use Rattle.words.proofs.meaning.facts_in.Statement.{statement}
 use Rattle.words.proofs.meaning.facts_in.Tie as tie
 
@@ -9,4 +8,4 @@ returns : tie.Need-returns
 returns c = refl
 
 pub facts-in-spec : {M : Type 1} → statement M
-facts-in-spec = tie.close (tie.spec (λ c. search needs) (λ c. search needs) (λ c. search needs) (λ c. search needs) returns)
+facts-in-spec = tie.close (tie.spec returns)

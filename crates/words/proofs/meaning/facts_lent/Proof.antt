@@ -1,6 +1,6 @@
 -- `words::meaning::facts_lent` meets its contract. Assumes nothing.
 use mathlib.Core.Path.{ap, _∙_}
-use Rattle.words.specs.Facts.{factsIn, factsLent}
+use Rattle.words.specs.Packed.{factsIn, factsLent}
 use borrow.Author.Needs.{needs}
 use Rattle.words.proofs.meaning.facts_lent.Statement.{statement}
 use Rattle.words.proofs.meaning.facts_lent.Tie as tie

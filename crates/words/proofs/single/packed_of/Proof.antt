@@ -1,14 +1,15 @@
 -- `words::single::packed_of` meets its contract. Assumes nothing. Written by tools/rows.
 use mathlib.Core.Path.{refl}
-use Rattle.words.specs.Kinds.{marks, marksOf}
+use Rattle.words.specs.Kinds.{marksOf}
 use Rattle.words.specs.Rows.{rows}
+use Rattle.words.specs.Codes.{partCode, optionCode, weight}
 use Rattle.words.specs.Packed.{packed, rowTable}
 use Rattle.words.proofs.SingleWord.{excluded, packed-moved, packed-past}
 use Rattle.words.proofs.single.packed_of.Statement.{statement}
 use Rattle.words.proofs.single.packed_of.Tie as tie
 
 pub packed-of-spec : {M : Type 1} → statement M
-unfolding rowTable rows packed marks marksOf
+unfolding rowTable rows packed partCode optionCode marksOf weight
 packed-of-spec =
     tie.close
     (tie.spec

@@ -1,5 +1,4 @@
 -- `yam_c::flat::config_in` meets its contract. Assumes nothing.
-use borrow.Author.Needs.{needs}
 use Rattle.yam_c.proofs.flat.config_in.Statement.{statement}
 use Rattle.yam_c.proofs.flat.config_in.Tie as tie
 
@@ -9,4 +8,4 @@ returns c = rw (c .before .before .before .before .before .before .before .befor
 pub config-in-spec : {M : Type 1} → statement M
 config-in-spec =
     tie.close
-    (tie.spec (λ c κs. search needs) (λ c κs. search needs) (λ c κs. search needs) (λ c κs. search needs) (λ c κs. search needs) (λ c κs. search needs) (λ c κs. search needs) (λ c κs. search needs) (λ c κs. search needs) (λ c κs. search needs) (λ c κs. search needs) (λ c κs. search needs) (λ c κs. search needs) (λ c κs. search needs) (λ c κs. search needs) (λ c κs. search needs) (λ c κs. search needs) (λ c κs. search needs) (λ c κs. search needs) returns)
+    (tie.spec (λ c κs. tt) (λ c κs. tt) (λ c κs. tt) (λ c κs. tt) (λ c κs. tt) (λ c κs. tt) (λ c κs. tt) (λ c κs. tt) (λ c κs. tt) (λ c κs. tt) (λ c κs. tt) (λ c κs. tt) (λ c κs. tt) (λ c κs. tt) (λ c κs. tt) (λ c κs. tt) (λ c κs. tt) (λ c κs. tt) (λ c κs. tt) returns)

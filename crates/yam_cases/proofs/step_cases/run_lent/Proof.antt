@@ -26,4 +26,4 @@ slice-aggregate-run-6 c = sym (length-take-le _ _ (c .before .before .before .be
 pub run-lent-spec : {M : Type 1} → statement M
 run-lent-spec =
     tie.close
-    (tie.spec (λ c κs. search needs) (λ c κs. search needs) (λ c κs. search needs) (λ c κs. search needs) (λ c κs. search needs) (λ c κs. search needs) slice-aggregate-run slice-aggregate-run-2 (λ c. search needs) slice-aggregate-run-3 (λ c. search needs) slice-aggregate-run-4 (λ c. search needs) slice-aggregate-run-5 (λ c. search needs) slice-aggregate-run-6 (λ c κs. search needs) (λ c. search needs) (λ c. search needs) (λ c. search needs) (λ c. search needs) (λ c. search needs))
+    (tie.spec (λ c κs. tt) (λ c κs. tt) (λ c κs. tt) (λ c κs. tt) (λ c κs. tt) (λ c κs. tt) slice-aggregate-run slice-aggregate-run-2 (λ c. search needs) slice-aggregate-run-3 (λ c. search needs) slice-aggregate-run-4 (λ c. search needs) slice-aggregate-run-5 (λ c. search needs) slice-aggregate-run-6 (λ c κs. tt) (λ c. search needs) (λ c. search needs) (λ c. search needs) (λ c. search needs) (λ c. search needs))

@@ -26,4 +26,4 @@ slice-aggregate-step-6 c = sym (length-take-le _ _ (c .before .before .before .b
 pub step-lent-spec : {M : Type 1} → statement M
 step-lent-spec =
     tie.close
-    (tie.spec (λ c κs. search needs) (λ c κs. search needs) (λ c κs. search needs) (λ c κs. search needs) (λ c κs. search needs) (λ c κs. search needs) slice-aggregate-step slice-aggregate-step-2 (λ c. search needs) slice-aggregate-step-3 (λ c. search needs) slice-aggregate-step-4 (λ c. search needs) slice-aggregate-step-5 (λ c. search needs) slice-aggregate-step-6 (λ c κs. search needs) (λ c. search needs) (λ c. search needs) (λ c. search needs) (λ c. search needs) (λ c. search needs))
+    (tie.spec (λ c κs. tt) (λ c κs. tt) (λ c κs. tt) (λ c κs. tt) (λ c κs. tt) (λ c κs. tt) slice-aggregate-step slice-aggregate-step-2 (λ c. search needs) slice-aggregate-step-3 (λ c. search needs) slice-aggregate-step-4 (λ c. search needs) slice-aggregate-step-5 (λ c. search needs) slice-aggregate-step-6 (λ c κs. tt) (λ c. search needs) (λ c. search needs) (λ c. search needs) (λ c. search needs) (λ c. search needs))

@@ -1,0 +1,65 @@
+-- `machine::exec::context_of` meets its contract. Assumes nothing.
+use native.Mathlib.Omega.{arith}
+use Rattle.state.specs.Plans.{contextOf}
+use Rattle.machine.proofs.exec.context_of.Statement.{statement}
+use Rattle.machine.proofs.exec.context_of.Tie as tie
+
+add-back : tie.Need-add-back
+unfolding contextOf
+add-back c = omega arith
+
+mul-result : tie.Need-mul-result
+unfolding contextOf
+mul-result c = omega arith
+
+mul-result-2 : tie.Need-mul-result-2
+unfolding contextOf
+mul-result-2 c = omega arith
+
+add-result : tie.Need-add-result
+unfolding contextOf
+add-result c = omega arith
+
+mul-result-3 : tie.Need-mul-result-3
+unfolding contextOf
+mul-result-3 c = omega arith
+
+add-result-2 : tie.Need-add-result-2
+unfolding contextOf
+add-result-2 c = omega arith
+
+mul-result-4 : tie.Need-mul-result-4
+unfolding contextOf
+mul-result-4 c = omega arith
+
+add-result-3 : tie.Need-add-result-3
+unfolding contextOf
+add-result-3 c = omega arith
+
+add-result-4 : tie.Need-add-result-4
+unfolding contextOf
+add-result-4 c = omega arith
+
+cast-result : tie.Need-cast-result
+unfolding contextOf
+cast-result c = omega arith
+
+returns : tie.Need-returns
+unfolding contextOf
+returns c = omega arith
+
+pub context-of-spec : {M : Type 1} → statement M
+context-of-spec =
+    tie.close
+    (tie.spec
+    add-back
+    mul-result
+    mul-result-2
+    add-result
+    mul-result-3
+    add-result-2
+    mul-result-4
+    add-result-3
+    add-result-4
+    cast-result
+    returns)

@@ -1,0 +1,32 @@
+-- `plans::plans::port_modify` meets its contract. Assumes nothing.
+use Rattle.laws.specs.Choice.{pick}
+use borrow.Author.Tests.{lt-ltb, le-ltb, le-leb, lt-leb, eq-eqb, ne-eqb, not-true, not-false}
+use native.Mathlib.Omega.{arith}
+use mathlib.Core.Path.{sym, _∙_}
+use borrow.Author.Needs.{needs}
+use Rattle.plans.proofs.plans.port_modify.Statement.{statement}
+use Rattle.plans.proofs.plans.port_modify.Tie as tie
+
+returns : tie.Need-returns
+unfolding pick
+returns c = rw (sym (c .before .before .near .ensures) ∙ not-true (c .before .before .near .result) (c .before .if1 .taken), c .stopped .ensures)
+
+returns-2 : tie.Need-returns-2
+unfolding pick
+returns-2 c = rw (sym (c .before .before .before .near .ensures) ∙ not-false (c .before .before .before .near .result) (c .before .before .if1 .left), le-ltb _ _ (c .before .if2 .taken), c .stopped2 .ensures)
+
+returns-3 : tie.Need-returns-3
+unfolding pick
+returns-3 c = rw (sym (c .before .before .before .before .near .ensures) ∙ not-false (c .before .before .before .before .near .result) (c .before .before .before .if1 .left), lt-ltb _ _ (c .before .before .if2 .left), le-ltb _ _ (c .before .if3 .taken), c .stopped3 .ensures)
+
+add-positioned : tie.Need-add-positioned
+add-positioned c = omega (arith, c .before .before .before .before .before .before .before .if2 .left, c .before .before .before .before .before .before .before .before .before .before .before .good)
+
+returns-4 : tie.Need-returns-4
+unfolding pick
+returns-4 c = rw (sym (c .before .before .before .before .before .before .before .before .before .before .before .before .before .before .before .near .ensures) ∙ not-false (c .before .before .before .before .before .before .before .before .before .before .before .before .before .before .before .near .result) (c .before .before .before .before .before .before .before .before .before .before .before .before .before .before .if1 .left), lt-ltb _ _ (c .before .before .before .before .before .before .before .before .before .before .before .before .before .if2 .left), lt-ltb _ _ (c .before .before .before .before .before .before .before .before .before .before .before .before .if3 .left), c .change .ensures, c .before .before .before .before .posting .ensures, c .before .before .before .before .before .positioned .ensures, c .before .before .before .before .before .before .next .ensures, c .before .before .before .to .ensures, c .before .before .to2 .ensures, c .before .to3 .ensures, c .before .before .before .before .before .before .before .none .ensures, c .before .before .before .before .before .before .before .before .with-top-bit .ensures, c .before .before .before .before .before .before .before .before .before .cut .ensures, c .before .before .before .before .before .before .before .before .before .before .wide .ensures)
+
+pub port-modify-spec : {M : Type 1} → statement M
+port-modify-spec =
+    tie.close
+    (tie.spec (λ c κs. search needs) (λ c κs. search needs) returns (λ c κs. search needs) returns-2 (λ c κs. search needs) returns-3 (λ c. search needs) (λ c. search needs) (λ c κs. search needs) (λ c κs. search needs) (λ c κs. search needs) (λ c κs. search needs) (λ c κs. search needs) add-positioned (λ c. search needs) (λ c κs. search needs) (λ c κs. search needs) (λ c κs. search needs) (λ c κs. search needs) (λ c κs. search needs) (λ c κs. search needs) returns-4)

@@ -1,0 +1,72 @@
+-- Readings of the rules that are easily taken otherwise, each with what the definitions answer: a second list with one claim.
+use Prim.Native.Nat.{ℕ}
+use mathlib.Core.Bool.{Bool, true, _&&_}
+use mathlib.Core.List.{List, [], _∷_}
+use lib.Dec.{T, eqb}
+use Rattle.laws.specs.Choice.{pick}
+use Rattle.words.specs.declared.Config.{Config}
+use Rattle.words.specs.Words.{partsOf, readOf}
+use Rattle.words.specs.Facts.{factsOf}
+use Rattle.arith.specs.declared.Operation.{Operation}
+use Rattle.arith.specs.declared.Operation.the-variants.{Abs}
+use Rattle.starred.specs.Cases.{configured, full, Case, computes, all-right}
+
+-- the full core with a data memory of n words
+abbrev pub withData : ℕ → Config
+withData n =
+    record {
+      imwidth = 32;
+      imsize = 128;
+      regwidth = 32;
+      regsize = 16;
+      rmsize = 64;
+      pcstack = 8;
+      dmsize = n;
+      dmpipe = 0;
+      alulevel = 2;
+      alumult = 1;
+      aluspr = 1;
+      iopif = 1;
+      ioprmw = 1;
+      yamclk = 0;
+      yamsreg3 = 0;
+      alu3op = 0;
+      irqif = 0;
+      copmsize = 0;
+      yamdbg = 0;
+    }
+
+pub data Reading : Type 0 where
+  answers : Config → ℕ → ℕ → Reading  -- a word in a configuration, and the number that reading it answers
+  bit26 : ℕ → ℕ → Reading  -- a word, and its bit 26 as it is read
+  bars : ℕ → ℕ → Reading  -- a word, and 1 where rule 3 bars its instruction
+  result : Case → Reading
+
+abbrev pub so : Reading → Bool
+so (answers c w n) = eqb (readOf c w .number) n
+so (bit26 w x) = eqb (readOf full w .number) 0 && eqb (readOf full w .instruction .flag) x
+so (bars w x) = eqb (readOf full w .number) 0 && eqb (pick (factsOf (partsOf w .row) .barred) 1 0) x
+so (result k) = all-right (k ∷ [])
+
+abbrev pub readings : List Reading
+readings =
+    answers (configured 16 16 2) 0 0 ∷
+    answers (configured 16 64 2) 0 1 ∷  -- "banks; W must be 32"
+    answers (withData 2) 0 0 ∷
+    answers (withData 1) 0 1 ∷  -- "DM_SIZE 0 or a power of two from 2"
+    answers full 0x00100000 7 ∷  -- a register is compared with REG_SIZE, not with RM_SIZE
+    answers (configured 32 64 0) 0x81000001 0 ∷
+    answers (configured 32 64 0) 0x81000000 7 ∷  -- a count is 1 at level 0
+    bit26 0x04000000 1 ∷
+    bars 0xc8000000 1 ∷  -- JMP @%d
+    bars 0xc0000000 0 ∷  -- JMP target
+    result (computes Abs 0 0xffffffff 1 0 1) ∷  -- N of ABS is the source's sign, not the result's
+    []
+
+abbrev pub all-so : List Reading → Bool
+all-so [] = true
+all-so (x ∷ xs) = so x && all-so xs
+
+-- the one claim
+abbrev pub RightReadings : Type 0
+RightReadings = T (all-so readings)
