@@ -7,8 +7,8 @@ use Rattle.arith.specs.Shifts.{shlOf, shrOf, shraOf, rotlOf, rotrOf}
 use Rattle.arith.specs.Unary.{absOf, clzOf}
 use Rattle.arith.specs.Bytes.{bstOf, bldOf, bldsOf}
 use Rattle.arith.specs.declared.Word.{Word}
-use Rattle.arith.specs.declared.Operation.{Operation}
-use Rattle.arith.specs.declared.Operation.the-variants.{And, Or, Xor, Add, Addc, Sub, Subc, Subs, Shl, Shr, Shra, Rotl, Rotr, Shl16, Abs, Clz, Bst, Bld, Blds}
+use Rattle.words.specs.declared.Operation.{Operation}
+use Rattle.words.specs.declared.Operation.the-variants.{And, Or, Xor, Add, Addc, Sub, Subc, Subs, Shl, Shr, Shra, Rotl, Rotr, Shl16, Abs, Clz, Bst, Bld, Blds}
 
 unfoldable pub aluOf : ℕ → Operation → ℕ → ℕ → ℕ → Word
 aluOf w And d s n = andOf d s n

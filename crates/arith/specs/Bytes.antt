@@ -13,7 +13,7 @@ byte k a = a / 2 ^ (8 * k) % 256
 abbrev pub ofByte : ℕ → ℕ → Word
 ofByte b v = record { value = v; z = one (eqb b 0); n = one (leb 128 b) }
 
--- BST: byte k of d becomes the low byte of s, and the others stay (`bst-parts` of Means says it in parts)
+-- BST: byte k of d becomes the low byte of s, and the others stay
 unfoldable pub bstOf : ℕ → ℕ → ℕ → ℕ → Word
 bstOf w k d s = ofByte (s % 256) (((d / 2 ^ (8 * k) / 256 * 256 + s % 256) * 2 ^ (8 * k) + d % 2 ^ (8 * k)) % 2 ^ w)
 

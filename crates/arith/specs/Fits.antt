@@ -3,6 +3,7 @@
 use Prim.Native.Nat.{ℕ, zero, suc, _+_, _-_, _*_, _/_, _%_, _^_, _≤_, _<_, zero-le}
 use mathlib.Core.Path.{_≡_}
 use mathlib.Core.Bool.{Bool, true, false}
+use mathlib.Core.Logic.{inl, inr}
 use native.Mathlib.Nat.{le-trans, lt-of-le-of-lt, mod-lt, mod-le, mul-le-mul, mul-le-mul-right, mul-lt-mul-of-pos-left, le-of-lt, div-lt-iff-lt-mul}
 use native.Mathlib.Omega.{arith}
 use lib.Dec.{T, leb, eqb, lit≤, leb→le, eqb→eq}
@@ -11,6 +12,8 @@ use lib.Pow.{pow-pos, pow-mono, shr-le, shr-lt}
 use lib.Bits.{and-lt, or-lt, xor-lt}
 use borrow.Author.Tests.{lt-leb}
 use Rattle.laws.specs.Choice.{pick, either}
+use Rattle.laws.specs.Test.{Member}
+use Rattle.words.specs.Configs.{widths}
 use Rattle.arith.specs.Width.{bits, Width, Words, one, half, top, twice}
 use Rattle.arith.specs.Logic.{andOf, orOf, xorOf}
 use Rattle.arith.specs.Sums.{addOf, difference, subOf, subsOf}
@@ -22,10 +25,10 @@ use Rattle.arith.specs.Immediates.{extendOf, immediateOf}
 use Rattle.arith.specs.Alu.{aluOf}
 use Rattle.arith.specs.declared.Word.{Word}
 use Rattle.arith.specs.declared.Product.{Product}
-use Rattle.arith.specs.declared.Form.{Form}
-use Rattle.arith.specs.declared.Form.the-variants.{Signed, Unsigned, Shifted}
-use Rattle.arith.specs.declared.Operation.{Operation}
-use Rattle.arith.specs.declared.Operation.the-variants.{And, Or, Xor, Add, Addc, Sub, Subc, Subs, Shl, Shr, Shra, Rotl, Rotr, Shl16, Abs, Clz, Bst, Bld, Blds}
+use Rattle.words.specs.declared.Form.{Form}
+use Rattle.words.specs.declared.Form.the-variants.{Signed, Unsigned, Shifted}
+use Rattle.words.specs.declared.Operation.{Operation}
+use Rattle.words.specs.declared.Operation.the-variants.{And, Or, Xor, Add, Addc, Sub, Subc, Subs, Shl, Shr, Shra, Rotl, Rotr, Shl16, Abs, Clz, Bst, Bld, Blds}
 
 -- a result of w bits, with flags
 pub record Fits (w : ℕ) (r : Word) : Type 0 where
@@ -107,6 +110,13 @@ module _ (w d s : ℕ) (h : Words w d s) where
       (λ t. omega (arith, room)) (omega (arith, room)))
 
 -- whatever the number, its width is one that the laws take
+-- a lawful REG_WIDTH is the width that is computed at
+pub bits-lawful : (w : ℕ) → Member w widths → bits w ≡ w
+unfolding bits pick
+bits-lawful w (inl e) = rw e
+bits-lawful w (inr (inl e)) = rw e
+bits-lawful w (inr (inr e)) = rw e
+
 pub bits-width : (n : ℕ) → Width (bits n)
 unfolding bits pick
 bits-width n = go (eqb n 8) (eqb n 16)

@@ -3,8 +3,8 @@
 use Prim.Native.Nat.{ℕ, _+_, _*_, _%_, _^_}
 use lib.Dec.{leb, eqb}
 use Rattle.laws.specs.Choice.{pick}
-use Rattle.arith.specs.declared.Form.{Form}
-use Rattle.arith.specs.declared.Form.the-variants.{Signed, Unsigned, Shifted}
+use Rattle.words.specs.declared.Form.{Form}
+use Rattle.words.specs.declared.Form.the-variants.{Signed, Unsigned, Shifted}
 
 -- at 32 bits
 unfoldable pub extendOf : Form → ℕ → ℕ

@@ -1,5 +1,5 @@
 -- What the calls of this crate promise. Section numbers are those of the YAM manual, 1.4; words in quotation marks are document 01's.
--- Definitions by subject, then `Alu` over all operations; laws: `Fits` (ranges), `Lawful` (nothing is cut), `Means` (readings).
+-- Definitions by subject, then `Alu` over all operations; laws: `Fits` (ranges).
 pub mod Width
 pub mod Logic
 pub mod Sums
@@ -10,5 +10,3 @@ pub mod Multiply
 pub mod Immediates
 pub mod Alu
 pub mod Fits
-pub mod Lawful
-pub mod Means

@@ -2,7 +2,7 @@
 use super::width::truncate;
 ghost use mathlib.Core.Path.{_≡_};
 ghost use Prim.Native.Nat.{_<_};
-ghost use Rattle.arith.specs.declared.Form.the-variants.{Signed, Shifted};
+ghost use Rattle.words.specs.declared.Form.the-variants.{Signed, Shifted};
 ghost use Rattle.arith.specs.Immediates.{extendOf, immediateOf};
 ghost use Rattle.arith.specs.Width.{Width};
 

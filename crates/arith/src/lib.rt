@@ -30,8 +30,10 @@ use unary::abs_word;
 use unary::clz_word;
 use width::bits_of;
 use width::truncate;
+use words::Form;
+use words::Operation;
 ghost use mathlib.Core.Path.{_≡_};
-ghost use Prim.Native.Nat.{ℕ, _%_, _^_};
+ghost use Prim.Native.Nat.{_%_, _^_};
 ghost use Rattle.arith.specs.Width.{bits};
 ghost use Rattle.arith.specs.Alu.{aluOf};
 ghost use Rattle.arith.specs.Multiply.{mulOf};
@@ -48,36 +50,6 @@ pub struct Word {
 pub struct Product {
     pub value: u32,
     pub high: u32,
-}
-
-// The three forms of a 16-bit immediate: #, > and < in the manual's notation.
-pub enum Form {
-    Signed,
-    Unsigned,
-    Shifted,
-}
-
-// What the ALU does. TST, CMP and CMPS are And, Sub and Subs whose result is not written; a byte operation holds its byte number.
-pub enum Operation {
-    And,
-    Or,
-    Xor,
-    Add,
-    Addc,
-    Sub,
-    Subc,
-    Subs,
-    Shl,
-    Shr,
-    Shra,
-    Rotl,
-    Rotr,
-    Shl16,
-    Abs,
-    Clz,
-    Bst(u32),
-    Bld(u32),
-    Blds(u32),
 }
 
 // Every operation but MUL, of the destination d, the source s and the flag N before. For any numbers: a width that is neither

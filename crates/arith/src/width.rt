@@ -1,7 +1,7 @@
 // The width, words cut to it, and flags as numbers.
 use super::Word;
 ghost use mathlib.Core.Path.{_≡_};
-ghost use Prim.Native.Nat.{ℕ, _%_, _^_, _≤_};
+ghost use Prim.Native.Nat.{_%_, _^_, _≤_};
 ghost use Rattle.arith.specs.Width.{bits, Width, half, one, wordOf};
 
 // 8, 16, and 32 for any other number.

@@ -73,7 +73,7 @@ pub fn look(
 {
     let n = words::row_lent(classes, w);
     if words::below_limits(entries, uppers, lowers, n, w) {
-        let i = words::parts_lent(bases, packs, n, w);
+        let i = words::parts_lent(bases, packs, c, n, w);
         return Parts {
             number: 0,
             source: i.source,

@@ -10,7 +10,7 @@ use borrow.Author.Tests.{eq-eqb, ne-eqb, le-leb}
 use lib.ListN.{length, getD, length-append, List·getD-append, List·getD-eq-default}
 use lib.Seq.{getD-append-add, getD-at}
 use Rattle.laws.specs.Choice.{pick, is-true}
-use Rattle.laws.specs.Test.{test, Holds, tests, each, less, same, _and_, Below}
+use Rattle.laws.specs.Test.{test, Holds, tests, less, same, _and_, Below}
 use Rattle.laws.specs.First.{first-failing, numbered, obeyed}
 use Rattle.laws.specs.Cells.{below-at}
 use Rattle.words.specs.declared.Config.{Config}

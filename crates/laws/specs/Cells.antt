@@ -1,9 +1,14 @@
 -- Cells below a bound: what is read there, and what stays so when a cell is set.
 -- Assumes nothing.
+use mathlib.Core.Path.{_≡_}
+use mathlib.Core.Bool.{true, false}
 use mathlib.Core.List.{List, [], _∷_}
-use Prim.Native.Nat.{ℕ, zero, suc, _<_}
-use lib.ListN.{getD, set, drop}
-use Rattle.laws.specs.Test.{Below}
+use Prim.Native.Nat.{ℕ, zero, suc, _+_, _≤_, _<_}
+use native.Mathlib.Numerals.{add-one}
+use borrow.Author.Tests.{lt-ltb, le-ltb}
+use lib.ListN.{length, getD, set, drop, drop-of-length-le}
+use lib.Seq.{drop-cons}
+use Rattle.laws.specs.Test.{Below, below}
 
 pub below-at : (b : ℕ) (l : List ℕ) (n : ℕ) → 0 < b → Below b l → getD l n 0 < b
 below-at b [] n z h = z
@@ -27,3 +32,14 @@ below-from b [] zero v q h = tt
 below-from b [] (suc n) v q h = tt
 below-from b (x ∷ l) zero v q h = (q, h)
 below-from b (x ∷ l) (suc n) v q h = below-from b l n v q h
+
+-- whether all cells from i on are below the bound, as a loop asks it
+module _ (b : ℕ) (xs : List ℕ) (i : ℕ) where
+  pub below-further : i < length xs → getD xs i 0 < b → below b (drop i xs) ≡ below b (drop (i + 1) xs)
+  below-further h q = rw (add-one, drop-cons xs i 0 h, lt-ltb _ _ q)
+
+  pub below-ends : i < length xs → b ≤ getD xs i 0 → false ≡ below b (drop i xs)
+  below-ends h q = rw (drop-cons xs i 0 h, le-ltb _ _ q)
+
+  pub below-done : length xs ≤ i → true ≡ below b (drop i xs)
+  below-done h = rw (drop-of-length-le xs h)

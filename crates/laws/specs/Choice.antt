@@ -45,6 +45,3 @@ is-false false h = refl
 
 pub true-is : (b : Bool) → b ≡ true → T b
 true-is b e = rw e tt
-
-pub false-is : (b : Bool) → b ≡ false → T b → ⊥
-false-is b e h = rw e at h

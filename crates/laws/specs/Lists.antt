@@ -1,15 +1,15 @@
 -- Laws of lists that the library lacks.
 -- Assumes nothing.
 use mathlib.Core.Path.{_≡_, refl}
-use mathlib.Core.Logic.{_⊎_, inl, inr}
-use mathlib.Core.Bool.{Bool, true, false, _&&_}
+use mathlib.Core.Logic.{inl, inr}
+use mathlib.Core.Bool.{Bool, true, _&&_}
 use mathlib.Core.List.{List, [], _∷_}
-use Prim.Native.Nat.{ℕ, zero, suc, _+_, _<_, _≤_}
-use native.Mathlib.Nat.{add-zero, zero-add, add-suc, suc-add, le-of-suc-le-suc, not-suc-le-zero}
+use Prim.Native.Nat.{ℕ, zero, suc, _<_, _≤_}
+use native.Mathlib.Nat.{le-of-suc-le-suc, not-suc-le-zero}
 use native.Mathlib.Omega.{arith}
 use lib.Dec.{T}
 use lib.ListN.{length, getD}
-use Rattle.laws.specs.Test.{member, Member, member-holds, and-left, and-right}
+use Rattle.laws.specs.Test.{Member, and-left, and-right}
 
 -- inside the list, the default does not matter
 pub getD-inside : {A : Type 0} (l : List A) (n : ℕ) (d e : A) → n < length l → getD l n d ≡ getD l n e
@@ -56,17 +56,3 @@ all-at f (x ∷ (y ∷ ys)) n t (inr m) = all-at f (y ∷ ys) n (and-right (f x)
 infixr 20 _also_
 pub _also_ : {A B : Type 0} → A → B → A × B
 x also y = (x, y)
-
--- a fact of each entry, which may speak of its place: the list's first place is k
-module _ {A : Type 0} (P : ℕ → A → Type 0) where
-  abbrev pub Placed : ℕ → List A → Type 0
-  Placed k [] = Unit {0}
-  Placed k (x ∷ xs) = P k x × Placed (suc k) xs
-
-  placed-from : (k : ℕ) (l : List A) (n : ℕ) (d : A) → Placed k l → P (k + n) d → P (k + n) (getD l n d)
-  placed-from k [] n d h q = q
-  placed-from k (x ∷ xs) zero d h q = rw add-zero (h .0)
-  placed-from k (x ∷ xs) (suc n) d h q = rw (add-suc, ← suc-add) (placed-from (suc k) xs n d (h .1) (rw (add-suc, ← suc-add) at q))
-
-  pub placed-at : (l : List A) (n : ℕ) (d : A) → Placed 0 l → P n d → P n (getD l n d)
-  placed-at l n d h q = rw zero-add at (placed-from 0 l n d h (rw zero-add q))

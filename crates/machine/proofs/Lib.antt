@@ -1,6 +1,2 @@
-pub mod Acting
-pub mod Deciding
-pub mod Looking
-pub mod Cellwise
-pub mod Going
-pub mod Kept
+pub mod Lookup
+pub mod Claims

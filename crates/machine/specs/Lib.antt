@@ -1,4 +1,4 @@
-pub mod Act
-pub mod Stretches
-pub mod Turns
-pub mod Promises
+pub mod Exec
+pub mod Stretching
+pub mod Stepping
+pub mod Claims

@@ -14,9 +14,9 @@ ghost use Rattle.words.specs.Finding.{keyTable, fieldTable, maskOf, masks as ma
 ghost use Rattle.state.specs.State.{env, state, stackLimit};
 ghost use Rattle.state.specs.Stops.{stop8, factsAt};
 ghost use Rattle.state.specs.Step.{cyclesOf, advanceOf};
-ghost use Rattle.state.proofs.Good.{Good};
-ghost use Rattle.machine.specs.Act.{changeAt, verdictOf, Ready, Lent};
-ghost use Rattle.machine.specs.Turns.{turned};
+ghost use Rattle.state.proofs.Ranges.{Good};
+ghost use Rattle.machine.specs.Exec.{changeAt, verdictOf, Ready, Lent};
+ghost use Rattle.machine.specs.Stepping.{turned};
 use crate::Decision;
 use crate::Turn;
 use crate::exec::exec;
@@ -25,15 +25,27 @@ use crate::memories::commit;
 use state::Core;
 use words::Config;
 use words::Reading;
+use words::codes;
+use words::entries;
+use words::layout;
+
+// A key that another field goes on from (words' specs/Finding.antt): where the field stands, its mask, where its entries begin.
+const CHOSEN: u32 = 0x80;
+
+const FIELD_MASK: u32 = 0x100;
+
+const FIELD_PLACE: u32 = 0x10000;
+
+const FIELD_START: u32 = 0x200000;
 
 // Whether stop 8 lets the instruction pass.
 fn allowed(mode: u64, source: u32, p: u64) -> bool
     ensures { λ r. ⌜ r ≡ test (stop8 mode source (factsIn p)) ⌝ }
 {
-    let m = p / 0x1000000;
+    let m = p / codes::MARKS;
     !(mode == 1)
-        | ((m / 32 % 2 == 1)
-            | ((m / 64 % 2 == 1)
+        | ((m / codes::LEAVES_MODE % 2 == 1)
+            | ((m / codes::REVEALS % 2 == 1)
                 & ((source == 0)
                     | ((source == 1) | ((source == 2) | ((source == 3) | (source == 7)))))))
 }
@@ -77,13 +89,13 @@ fn entry_of(keys: &[u32], fields: &[u32], w: u32) -> u32
     requires { ⌜ (now keys ≡ keyTable) × (now fields ≡ fieldTable) ⌝ }
     ensures { λ r. ⌜ r ≡ entryOf w ⌝ }
 {
-    let k = (w / 8388608) as usize;
+    let k = (w / layout::KEY) as usize;
     let key = keys[k];
-    if key / 128 % 2 == 0 {
+    if key / CHOSEN % 2 == 0 {
         return key;
     }
-    let field = (w >> (key / 65536 % 32)) & (key / 256 % 256);
-    let i = (key / 2097152) as usize + field as usize;
+    let field = (w >> (key / FIELD_PLACE % 32)) & (key / FIELD_MASK % 256);
+    let i = (key / FIELD_START) as usize + field as usize;
     fields[i]
 }
 
@@ -92,7 +104,7 @@ fn below_limits(c: Config, masks: &[u32], e: u32, w: u32) -> bool
     requires { ⌜ now masks ≡ maskTable c ⌝ }
     ensures { λ r. ⌜ r ≡ eqb (bitAnd w (maskOf (upperLimit c (checkAt (e % 64))) (lowerLimit c (checkAt (e % 64))))) 0 ⌝ }
 {
-    let t = (e % 64) as usize;
+    let t = (e % entries::CHECKS) as usize;
     w & masks[t] == 0
 }
 
@@ -115,7 +127,7 @@ fn cycles_of(c: Config, costs: &[u64], e: u32) -> u64
     requires { ⌜ now costs ≡ costTable c ⌝ }
     ensures { λ r. ⌜ r ≡ 2 + waitOf c (checkAt (e % 64)) ⌝ }
 {
-    costs[(e % 64) as usize]
+    costs[(e % entries::CHECKS) as usize]
 }
 
 // What the word at PC does, unless 5 to 8 are not settled; `limit` is the return stack's.

@@ -7,12 +7,16 @@ ghost use Rattle.words.specs.Configs.{lawful};
 ghost use Rattle.state.specs.State.{stackLimit};
 ghost use Rattle.state.specs.Operands.{view};
 ghost use Rattle.state.specs.Plans.{contextOf};
-ghost use Rattle.machine.specs.Act.{movedValue, Fit, Acts};
+ghost use Rattle.machine.specs.Exec.{movedValue, Fit, Acts};
 use crate::memories::cell;
-use arith::Operation;
+use plans::context;
 use state::Change;
 use state::Core;
 use words::Config;
+use words::Operation;
+use words::actions;
+use words::entries;
+use words::layout;
 
 // The cell of register r, taken modulo REG_SIZE, in the bank at wp.
 fn place(c: Config, wp: usize, r: u32) -> usize
@@ -40,14 +44,20 @@ fn moved_value(c: Config, m: Core, source: u32, s: u32) -> u32
     s
 }
 
+// WP is a multiple of this; JSRWP names it by the quotient.
+const BANK_UNIT: usize = 16;
+
 // The context that JSRWP stores.
 fn context_of(m: Core) -> u32
     requires { ⌜ contextOf m < 4294967296 ⌝ }
     ensures { λ r. ⌜ r ≡ contextOf m ⌝ }
 {
-    let bank = (m.wp / 16) as u64;
-    let back = (m.pc as u64) + 1;
-    (67108864 * bank + 2097152 * m.n + 1048576 * m.z + 65536 * m.imask + back) as u32
+    let bank = (m.wp / BANK_UNIT) as u32;
+    let n = m.n as u32;
+    let z = m.z as u32;
+    let imask = m.imask as u32;
+    let back = (m.pc + 1) as u32;
+    context::BANK * bank + context::N * n + context::Z * z + context::IMASK * imask + back
 }
 
 // The change that word w makes, whose row's entry is e, or its stop, 9 to 15; `limit` is the return stack's.
@@ -67,427 +77,459 @@ pub fn exec(
     ensures { λ r. ⌜ Acts (view c m (now (stack .entry)) (now (registers .entry)) (now (memory .entry)) (now (inputs .entry)) room) e w r ⌝ }
 {
     let last = c.regsize - 1;
-    match e / 67108864 {
-        0 => plans::skip(m),
-        1 => plans::compare(
+    match e / entries::ACTION {
+        actions::UNSUPPORTED => plans::skip(m),
+        actions::TST_REGISTER => plans::compare(
             c,
             m,
-            w / 67108864 % 2,
+            w / layout::FLAG % 2,
             Operation::And,
-            register(c, m, registers, w / 65536),
+            register(c, m, registers, w / layout::UPPER),
             register(c, m, registers, w),
         ),
-        2 => plans::compare(
+        actions::TST_IMMEDIATE => plans::compare(
             c,
             m,
-            w / 67108864 % 2,
+            w / layout::FLAG % 2,
             Operation::And,
-            register(c, m, registers, w / 65536),
+            register(c, m, registers, w / layout::UPPER),
             plans::immediate_in(c, e, w),
         ),
-        3 => plans::compute(
+        actions::AND_REGISTER => plans::compute(
             c,
             m,
-            w / 67108864 % 2,
+            w / layout::FLAG % 2,
             Operation::And,
-            place(c, m.wp, w / 65536),
-            register(c, m, registers, w / 65536),
+            place(c, m.wp, w / layout::UPPER),
+            register(c, m, registers, w / layout::UPPER),
             register(c, m, registers, w),
         ),
-        4 => plans::compute(
+        actions::AND_IMMEDIATE => plans::compute(
             c,
             m,
-            w / 67108864 % 2,
+            w / layout::FLAG % 2,
             Operation::And,
-            place(c, m.wp, w / 65536),
-            register(c, m, registers, w / 65536),
+            place(c, m.wp, w / layout::UPPER),
+            register(c, m, registers, w / layout::UPPER),
             plans::immediate_in(c, e, w),
         ),
-        5 => plans::compute(
+        actions::OR_REGISTER => plans::compute(
             c,
             m,
-            w / 67108864 % 2,
+            w / layout::FLAG % 2,
             Operation::Or,
-            place(c, m.wp, w / 65536),
-            register(c, m, registers, w / 65536),
+            place(c, m.wp, w / layout::UPPER),
+            register(c, m, registers, w / layout::UPPER),
             register(c, m, registers, w),
         ),
-        6 => plans::compute(
+        actions::OR_IMMEDIATE => plans::compute(
             c,
             m,
-            w / 67108864 % 2,
+            w / layout::FLAG % 2,
             Operation::Or,
-            place(c, m.wp, w / 65536),
-            register(c, m, registers, w / 65536),
+            place(c, m.wp, w / layout::UPPER),
+            register(c, m, registers, w / layout::UPPER),
             plans::immediate_in(c, e, w),
         ),
-        7 => plans::compute(
+        actions::XOR_REGISTER => plans::compute(
             c,
             m,
-            w / 67108864 % 2,
+            w / layout::FLAG % 2,
             Operation::Xor,
-            place(c, m.wp, w / 65536),
-            register(c, m, registers, w / 65536),
+            place(c, m.wp, w / layout::UPPER),
+            register(c, m, registers, w / layout::UPPER),
             register(c, m, registers, w),
         ),
-        8 => plans::compute(
+        actions::XOR_IMMEDIATE => plans::compute(
             c,
             m,
-            w / 67108864 % 2,
+            w / layout::FLAG % 2,
             Operation::Xor,
-            place(c, m.wp, w / 65536),
-            register(c, m, registers, w / 65536),
+            place(c, m.wp, w / layout::UPPER),
+            register(c, m, registers, w / layout::UPPER),
             plans::immediate_in(c, e, w),
         ),
-        9 => plans::compare(
+        actions::CMP_REGISTER => plans::compare(
             c,
             m,
-            w / 67108864 % 2,
+            w / layout::FLAG % 2,
             Operation::Sub,
-            register(c, m, registers, w / 65536),
+            register(c, m, registers, w / layout::UPPER),
             register(c, m, registers, w),
         ),
-        10 => plans::compare(
+        actions::CMP_IMMEDIATE => plans::compare(
             c,
             m,
-            w / 67108864 % 2,
+            w / layout::FLAG % 2,
             Operation::Sub,
-            register(c, m, registers, w / 65536),
+            register(c, m, registers, w / layout::UPPER),
             plans::immediate_in(c, e, w),
         ),
-        11 => plans::compare(
+        actions::CMPS_REGISTER => plans::compare(
             c,
             m,
-            w / 67108864 % 2,
+            w / layout::FLAG % 2,
             Operation::Subs,
-            register(c, m, registers, w / 65536),
+            register(c, m, registers, w / layout::UPPER),
             register(c, m, registers, w),
         ),
-        12 => plans::compare(
+        actions::CMPS_IMMEDIATE => plans::compare(
             c,
             m,
-            w / 67108864 % 2,
+            w / layout::FLAG % 2,
             Operation::Subs,
-            register(c, m, registers, w / 65536),
+            register(c, m, registers, w / layout::UPPER),
             plans::immediate_in(c, e, w),
         ),
-        13 => plans::compute(
+        actions::SUB_REGISTER => plans::compute(
             c,
             m,
-            w / 67108864 % 2,
+            w / layout::FLAG % 2,
             Operation::Sub,
-            place(c, m.wp, w / 65536),
-            register(c, m, registers, w / 65536),
+            place(c, m.wp, w / layout::UPPER),
+            register(c, m, registers, w / layout::UPPER),
             register(c, m, registers, w),
         ),
-        14 => plans::compute(
+        actions::SUB_IMMEDIATE => plans::compute(
             c,
             m,
-            w / 67108864 % 2,
+            w / layout::FLAG % 2,
             Operation::Sub,
-            place(c, m.wp, w / 65536),
-            register(c, m, registers, w / 65536),
+            place(c, m.wp, w / layout::UPPER),
+            register(c, m, registers, w / layout::UPPER),
             plans::immediate_in(c, e, w),
         ),
-        15 => plans::compute(
+        actions::SUBS_REGISTER => plans::compute(
             c,
             m,
-            w / 67108864 % 2,
+            w / layout::FLAG % 2,
             Operation::Subs,
-            place(c, m.wp, w / 65536),
-            register(c, m, registers, w / 65536),
+            place(c, m.wp, w / layout::UPPER),
+            register(c, m, registers, w / layout::UPPER),
             register(c, m, registers, w),
         ),
-        16 => plans::compute(
+        actions::SUBS_IMMEDIATE => plans::compute(
             c,
             m,
-            w / 67108864 % 2,
+            w / layout::FLAG % 2,
             Operation::Subs,
-            place(c, m.wp, w / 65536),
-            register(c, m, registers, w / 65536),
+            place(c, m.wp, w / layout::UPPER),
+            register(c, m, registers, w / layout::UPPER),
             plans::immediate_in(c, e, w),
         ),
-        17 => plans::compute(
+        actions::ADD_REGISTER => plans::compute(
             c,
             m,
-            w / 67108864 % 2,
+            w / layout::FLAG % 2,
             Operation::Add,
-            place(c, m.wp, w / 65536),
-            register(c, m, registers, w / 65536),
+            place(c, m.wp, w / layout::UPPER),
+            register(c, m, registers, w / layout::UPPER),
             register(c, m, registers, w),
         ),
-        18 => plans::compute(
+        actions::ADD_IMMEDIATE => plans::compute(
             c,
             m,
-            w / 67108864 % 2,
+            w / layout::FLAG % 2,
             Operation::Add,
-            place(c, m.wp, w / 65536),
-            register(c, m, registers, w / 65536),
+            place(c, m.wp, w / layout::UPPER),
+            register(c, m, registers, w / layout::UPPER),
             plans::immediate_in(c, e, w),
         ),
-        19 => plans::compute(
+        actions::ADDC_REGISTER => plans::compute(
             c,
             m,
-            w / 67108864 % 2,
+            w / layout::FLAG % 2,
             Operation::Addc,
-            place(c, m.wp, w / 65536),
-            register(c, m, registers, w / 65536),
+            place(c, m.wp, w / layout::UPPER),
+            register(c, m, registers, w / layout::UPPER),
             register(c, m, registers, w),
         ),
-        20 => plans::compute(
+        actions::ADDC_IMMEDIATE => plans::compute(
             c,
             m,
-            w / 67108864 % 2,
+            w / layout::FLAG % 2,
             Operation::Addc,
-            place(c, m.wp, w / 65536),
-            register(c, m, registers, w / 65536),
+            place(c, m.wp, w / layout::UPPER),
+            register(c, m, registers, w / layout::UPPER),
             plans::immediate_in(c, e, w),
         ),
-        21 => plans::compute(
+        actions::SUBC_REGISTER => plans::compute(
             c,
             m,
-            w / 67108864 % 2,
+            w / layout::FLAG % 2,
             Operation::Subc,
-            place(c, m.wp, w / 65536),
-            register(c, m, registers, w / 65536),
+            place(c, m.wp, w / layout::UPPER),
+            register(c, m, registers, w / layout::UPPER),
             register(c, m, registers, w),
         ),
-        22 => plans::compute(
+        actions::SUBC_IMMEDIATE => plans::compute(
             c,
             m,
-            w / 67108864 % 2,
+            w / layout::FLAG % 2,
             Operation::Subc,
-            place(c, m.wp, w / 65536),
-            register(c, m, registers, w / 65536),
+            place(c, m.wp, w / layout::UPPER),
+            register(c, m, registers, w / layout::UPPER),
             plans::immediate_in(c, e, w),
         ),
-        23 => plans::multiply(
+        actions::MUL_REGISTER => plans::multiply(
             c,
             m,
-            place(c, m.wp, w / 65536),
-            register(c, m, registers, w / 65536),
+            place(c, m.wp, w / layout::UPPER),
+            register(c, m, registers, w / layout::UPPER),
             register(c, m, registers, w),
         ),
-        24 => plans::multiply(
+        actions::MUL_IMMEDIATE => plans::multiply(
             c,
             m,
-            place(c, m.wp, w / 65536),
-            register(c, m, registers, w / 65536),
+            place(c, m.wp, w / layout::UPPER),
+            register(c, m, registers, w / layout::UPPER),
             plans::immediate_in(c, e, w),
         ),
-        25 => plans::compute(
+        actions::SHR_REGISTER => plans::compute(
             c,
             m,
-            w / 67108864 % 2,
+            w / layout::FLAG % 2,
             Operation::Shr,
-            place(c, m.wp, w / 65536),
-            register(c, m, registers, w / 65536),
+            place(c, m.wp, w / layout::UPPER),
+            register(c, m, registers, w / layout::UPPER),
             register(c, m, registers, w),
         ),
-        26 => plans::compute(
+        actions::SHRA_REGISTER => plans::compute(
             c,
             m,
-            w / 67108864 % 2,
+            w / layout::FLAG % 2,
             Operation::Shra,
-            place(c, m.wp, w / 65536),
-            register(c, m, registers, w / 65536),
+            place(c, m.wp, w / layout::UPPER),
+            register(c, m, registers, w / layout::UPPER),
             register(c, m, registers, w),
         ),
-        27 => plans::compute(
+        actions::SHL_REGISTER => plans::compute(
             c,
             m,
-            w / 67108864 % 2,
+            w / layout::FLAG % 2,
             Operation::Shl,
-            place(c, m.wp, w / 65536),
-            register(c, m, registers, w / 65536),
+            place(c, m.wp, w / layout::UPPER),
+            register(c, m, registers, w / layout::UPPER),
             register(c, m, registers, w),
         ),
-        28 => plans::compute(
+        actions::SHR_COUNT => plans::compute(
             c,
             m,
-            w / 67108864 % 2,
+            w / layout::FLAG % 2,
             Operation::Shr,
-            place(c, m.wp, w / 65536),
-            register(c, m, registers, w / 65536),
-            w % 65536,
+            place(c, m.wp, w / layout::UPPER),
+            register(c, m, registers, w / layout::UPPER),
+            w % layout::LOWER_VALUES,
         ),
-        29 => plans::compute(
+        actions::SHRA_COUNT => plans::compute(
             c,
             m,
-            w / 67108864 % 2,
+            w / layout::FLAG % 2,
             Operation::Shra,
-            place(c, m.wp, w / 65536),
-            register(c, m, registers, w / 65536),
-            w % 65536,
+            place(c, m.wp, w / layout::UPPER),
+            register(c, m, registers, w / layout::UPPER),
+            w % layout::LOWER_VALUES,
         ),
-        30 => plans::compute(
+        actions::SHL_COUNT => plans::compute(
             c,
             m,
-            w / 67108864 % 2,
+            w / layout::FLAG % 2,
             Operation::Shl,
-            place(c, m.wp, w / 65536),
-            register(c, m, registers, w / 65536),
-            w % 65536,
+            place(c, m.wp, w / layout::UPPER),
+            register(c, m, registers, w / layout::UPPER),
+            w % layout::LOWER_VALUES,
         ),
-        31 => plans::compute(
+        actions::ROTR => plans::compute(
             c,
             m,
-            w / 67108864 % 2,
+            w / layout::FLAG % 2,
             Operation::Rotr,
-            place(c, m.wp, w / 65536),
-            register(c, m, registers, w / 65536),
+            place(c, m.wp, w / layout::UPPER),
+            register(c, m, registers, w / layout::UPPER),
             register(c, m, registers, w),
         ),
-        32 => plans::compute(
+        actions::ROTL => plans::compute(
             c,
             m,
-            w / 67108864 % 2,
+            w / layout::FLAG % 2,
             Operation::Rotl,
-            place(c, m.wp, w / 65536),
-            register(c, m, registers, w / 65536),
+            place(c, m.wp, w / layout::UPPER),
+            register(c, m, registers, w / layout::UPPER),
             register(c, m, registers, w),
         ),
-        33 => plans::compute(
+        actions::SHL16 => plans::compute(
             c,
             m,
-            w / 67108864 % 2,
+            w / layout::FLAG % 2,
             Operation::Shl16,
-            place(c, m.wp, w / 65536),
-            register(c, m, registers, w / 65536),
+            place(c, m.wp, w / layout::UPPER),
+            register(c, m, registers, w / layout::UPPER),
             register(c, m, registers, w),
         ),
-        34 => plans::compute(
+        actions::ABS => plans::compute(
             c,
             m,
-            w / 67108864 % 2,
+            w / layout::FLAG % 2,
             Operation::Abs,
-            place(c, m.wp, w / 65536),
-            register(c, m, registers, w / 65536),
+            place(c, m.wp, w / layout::UPPER),
+            register(c, m, registers, w / layout::UPPER),
             register(c, m, registers, w),
         ),
-        35 => plans::compute(
+        actions::CLZ => plans::compute(
             c,
             m,
-            w / 67108864 % 2,
+            w / layout::FLAG % 2,
             Operation::Clz,
-            place(c, m.wp, w / 65536),
-            register(c, m, registers, w / 65536),
+            place(c, m.wp, w / layout::UPPER),
+            register(c, m, registers, w / layout::UPPER),
             register(c, m, registers, w),
         ),
-        36 => plans::compute(
+        actions::BST => plans::compute(
             c,
             m,
-            w / 67108864 % 2,
-            Operation::Bst(w / 8388608 % 4),
-            place(c, m.wp, w / 65536),
-            register(c, m, registers, w / 65536),
+            w / layout::FLAG % 2,
+            Operation::Bst(w / layout::NUMBER % layout::BYTE_NUMBERS),
+            place(c, m.wp, w / layout::UPPER),
+            register(c, m, registers, w / layout::UPPER),
             register(c, m, registers, w),
         ),
-        37 => plans::compute(
+        actions::BLD => plans::compute(
             c,
             m,
-            w / 67108864 % 2,
-            Operation::Bld(w / 8388608 % 4),
-            place(c, m.wp, w / 65536),
-            register(c, m, registers, w / 65536),
+            w / layout::FLAG % 2,
+            Operation::Bld(w / layout::NUMBER % layout::BYTE_NUMBERS),
+            place(c, m.wp, w / layout::UPPER),
+            register(c, m, registers, w / layout::UPPER),
             register(c, m, registers, w),
         ),
-        38 => plans::compute(
+        actions::BLDS => plans::compute(
             c,
             m,
-            w / 67108864 % 2,
-            Operation::Blds(w / 8388608 % 4),
-            place(c, m.wp, w / 65536),
-            register(c, m, registers, w / 65536),
+            w / layout::FLAG % 2,
+            Operation::Blds(w / layout::NUMBER % layout::BYTE_NUMBERS),
+            place(c, m.wp, w / layout::UPPER),
+            register(c, m, registers, w / layout::UPPER),
             register(c, m, registers, w),
         ),
-        39 => plans::load_index(m, w / 67108864 % 2, w & last, (w / 65536) & last),
-        40 => plans::index_store(
+        actions::LDYX => plans::load_index(
+            m,
+            w / layout::FLAG % 2,
+            w & last,
+            (w / layout::UPPER) & last,
+        ),
+        actions::MOVX_TO => plans::index_store(
             c,
             m,
-            w / 67108864 % 2,
-            register(c, m, registers, w / 65536),
+            w / layout::FLAG % 2,
+            register(c, m, registers, w / layout::UPPER),
             cell(registers, m.wp + m.rx),
         ),
-        41 => plans::index_load(
+        actions::MOVX_FROM => plans::index_load(
             c,
             m,
-            w / 67108864 % 2,
+            w / layout::FLAG % 2,
             register(c, m, registers, w),
             m.wp + m.rx,
             memory,
         ),
-        42 => plans::assign(
+        actions::MOV_REGISTER => plans::assign(
             m,
-            place(c, m.wp, w / 65536),
+            place(c, m.wp, w / layout::UPPER),
             moved_value(c, m, w & last, register(c, m, registers, w)),
         ),
-        43 => plans::assign(m, place(c, m.wp, w / 65536), plans::immediate_in(c, e, w)),
-        44 => plans::load(
+        actions::MOV_IMMEDIATE => plans::assign(
             m,
-            place(c, m.wp, w / 65536),
+            place(c, m.wp, w / layout::UPPER),
+            plans::immediate_in(c, e, w),
+        ),
+        actions::MOV_FROM_REGISTER => plans::load_register(
+            m,
+            place(c, m.wp, w / layout::UPPER),
             register(c, m, registers, w),
             memory,
         ),
-        45 => plans::assign(
+        actions::MOV_FROM_ADDRESS => plans::assign(
             m,
-            place(c, m.wp, w / 65536),
-            plans::value_at(memory, (w % 65536) as usize),
+            place(c, m.wp, w / layout::UPPER),
+            plans::value_at(memory, (w % layout::LOWER_VALUES) as usize),
         ),
-        46 => plans::store(
+        actions::MOV_TO_REGISTER => plans::store_register(
             c,
             m,
-            register(c, m, registers, w / 65536),
+            register(c, m, registers, w / layout::UPPER),
             register(c, m, registers, w),
         ),
-        47 => plans::store_direct(m, w % 65536, register(c, m, registers, w / 65536)),
-        48 => plans::port_read(
+        actions::MOV_TO_ADDRESS => plans::store_direct(
+            m,
+            w % layout::LOWER_VALUES,
+            register(c, m, registers, w / layout::UPPER),
+        ),
+        actions::MOVIO_READ => plans::port_read(
             c,
             m,
-            place(c, m.wp, w / 65536),
+            place(c, m.wp, w / layout::UPPER),
             register(c, m, registers, w),
             inputs,
         ),
-        49 => plans::port_modify(
+        actions::IORMW => plans::port_modify(
             c,
             m,
-            place(c, m.wp, w / 65536),
+            place(c, m.wp, w / layout::UPPER),
             register(c, m, registers, w),
             inputs,
             room,
         ),
-        50 => plans::port_write(
+        actions::MOVIO_REGISTER => plans::port_write(
             m,
-            register(c, m, registers, w / 65536),
+            register(c, m, registers, w / layout::UPPER),
             register(c, m, registers, w),
             room,
         ),
-        51 => plans::port_write(
+        actions::MOVIO_IMMEDIATE => plans::port_write(
             m,
-            register(c, m, registers, w / 65536),
+            register(c, m, registers, w / layout::UPPER),
             plans::immediate_in(c, e, w),
             room,
         ),
-        52 => plans::jump(m, (w % 8388608) as usize),
-        53 => plans::branch(m, e / 256 % 16, (w % 8388608) as usize),
-        54 => plans::jump(m, (register(c, m, registers, w / 65536) % 8388608) as usize),
-        55 => plans::branch(
+        actions::JMP_ALWAYS => plans::jump(m, (w % layout::TARGETS) as usize),
+        actions::JMP_CONDITION => plans::branch(
             m,
-            e / 256 % 16,
-            (register(c, m, registers, w / 65536) % 8388608) as usize,
+            e / entries::CONDITION % entries::CONDITIONS,
+            (w % layout::TARGETS) as usize,
         ),
-        56 => plans::call(limit, m, (w % 8388608) as usize),
-        57 => plans::call(
+        actions::JMP_REGISTER_ALWAYS => plans::jump(
+            m,
+            (register(c, m, registers, w / layout::UPPER) % layout::TARGETS) as usize,
+        ),
+        actions::JMP_REGISTER_CONDITION => plans::branch(
+            m,
+            e / entries::CONDITION % entries::CONDITIONS,
+            (register(c, m, registers, w / layout::UPPER) % layout::TARGETS) as usize,
+        ),
+        actions::JSR => plans::call(limit, m, (w % layout::TARGETS) as usize),
+        actions::JSR_REGISTER => plans::call(
             limit,
             m,
-            (register(c, m, registers, w / 65536) % 8388608) as usize,
+            (register(c, m, registers, w / layout::UPPER) % layout::TARGETS) as usize,
         ),
-        58 => plans::ret_constant(c, m, place(c, m.wp, w / 65536), w % 65536, stack),
-        59 => plans::enter_bank(c, m, w / 65536 % 128, w % 65536, context_of(m)),
-        60 => plans::ret(m, stack),
-        61 => plans::leave_bank(c, m, cell(registers, m.wp)),
-        62 => plans::leave_special(m),
-        63 => plans::enter_special(m),
+        actions::RLD => plans::ret_constant(
+            c,
+            m,
+            place(c, m.wp, w / layout::UPPER),
+            w % layout::LOWER_VALUES,
+            stack,
+        ),
+        actions::JSRWP => plans::enter_bank(
+            c,
+            m,
+            w / layout::UPPER % layout::UPPER_VALUES,
+            w % layout::LOWER_VALUES,
+            context_of(m),
+        ),
+        actions::RET => plans::ret(m, stack),
+        actions::RETWP => plans::leave_bank(c, m, cell(registers, m.wp)),
+        actions::SPR_OFF => plans::leave_special(m),
+        actions::SPR_ON => plans::enter_special(m),
         _ => plans::skip(m),
     }
 }

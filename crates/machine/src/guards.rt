@@ -1,9 +1,8 @@
 // The refusals before a step: 1, 2 and 3.
 ghost use mathlib.Core.Path.{_≡_};
-ghost use Prim.Native.Nat.{_+_, _≤_, _<_};
+ghost use Prim.Native.Nat.{_+_, _<_};
 ghost use mathlib.Core.List.{[]};
 ghost use lib.Dec.{leb};
-ghost use lib.ListN.{length};
 ghost use Rattle.laws.specs.Test.{test};
 ghost use Rattle.laws.specs.First.{first-failing};
 ghost use Rattle.state.specs.State.{env, state};
@@ -43,7 +42,7 @@ fn places_fit(c: Config, m: Core) -> bool
 {
     let bank = sum_within(m.wp, c.regsize, c.rmsize);
     let size = c.regsize as usize;
-    (m.pc < 8388608) & ((m.wp % 16 == 0) & (bank & ((m.rx < size) & (m.ry < size))))
+    (m.pc < Machine::PC_LIMIT) & ((m.wp % 16 == 0) & (bank & ((m.rx < size) & (m.ry < size))))
 }
 
 fn marks_fit(c: Config, m: Core) -> bool
@@ -54,8 +53,8 @@ fn marks_fit(c: Config, m: Core) -> bool
         & ((m.z <= 1)
             & ((m.mode <= 1)
                 & ((m.posted <= 1)
-                    & ((m.imask <= 15)
-                        & ((m.saved <= 15)
+                    & ((m.imask <= Machine::MASK_MOST)
+                        & ((m.saved <= Machine::MASK_MOST)
                             & ((m.spr7 < top) & (!(c.regwidth == 32) | (m.spr7 == 0))))))))
 }
 

@@ -1,11 +1,11 @@
 // Writes to memories, and tests of whole memories.
 ghost use mathlib.Core.Path.{_≡_};
-ghost use Prim.Native.Nat.{_≤_, _<_};
+ghost use Prim.Native.Nat.{_<_};
 ghost use lib.ListN.{drop, getD, length};
 ghost use Rattle.laws.specs.Test.{below};
 ghost use Rattle.state.specs.State.{state};
 ghost use Rattle.state.specs.Step.{putOf, applied};
-ghost use Rattle.state.proofs.Apply.{Inside, Landing};
+ghost use Rattle.state.proofs.Step.{Inside, Landing};
 use state::Change;
 use state::Write;
 

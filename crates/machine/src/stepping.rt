@@ -5,9 +5,9 @@ ghost use lib.ListN.{length};
 ghost use Rattle.laws.specs.Choice.{pick as choice};
 ghost use Rattle.state.specs.State.{env, state};
 ghost use Rattle.state.specs.Run.{runOf};
-ghost use Rattle.state.proofs.Good.{Good};
-ghost use Rattle.machine.specs.Promises.{Steps, Runs};
-ghost use Rattle.machine.specs.Turns.{machineState, stepped, endOf, turnsEnd, ranEnd};
+ghost use Rattle.state.proofs.Ranges.{Good};
+ghost use Rattle.machine.specs.Claims.{Steps, Runs};
+ghost use Rattle.machine.specs.Stepping.{machineState, stepped, endOf, turnsEnd, ranEnd};
 use crate::Ran;
 use crate::Stepped;
 use crate::Turns;
@@ -198,7 +198,7 @@ pub fn run(
             machine: m,
         };
     }
-    if 1000000 < budget {
+    if Machine::BUDGET_MOST < budget {
         return Ran {
             number: 16,
             steps: 0,

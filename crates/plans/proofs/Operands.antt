@@ -1,16 +1,16 @@
 -- What the readers of values.rt compute is state's Operands: past the ends of its lists.
 -- Assumes nothing.
 use Prim.Native.Nat.{ℕ, _+_, _*_, _%_, _≤_, _<_}
-use mathlib.Core.Path.{_≡_, refl, sym, ap, _∙_}
+use mathlib.Core.Path.{_≡_, sym, ap, _∙_}
 use mathlib.Core.Bool.{false}
-use mathlib.Core.List.{List, [], _∷_}
+use mathlib.Core.List.{[], _∷_}
 use native.Mathlib.Omega.{arith}
-use lib.ListN.{length, getD, List·getD-eq-default}
+use lib.ListN.{getD, List·getD-eq-default}
 use Rattle.laws.specs.Lists.{getD-inside}
 use Rattle.words.specs.declared.Config.{Config}
 use Rattle.words.specs.Kinds.{BIO}
 use Rattle.words.specs.Codes.{conditions, conditionAt, formAt}
-use Rattle.arith.specs.declared.Form.the-variants.{Signed, Unsigned, Shifted}
+use Rattle.words.specs.declared.Form.the-variants.{Signed, Unsigned, Shifted}
 use Rattle.state.specs.State.{top}
 use Rattle.state.specs.Operands.{conditionMet, log2, specialRegister}
 

@@ -3,7 +3,7 @@ use Prim.Native.Nat.{ℕ, _+_, _%_, _^_}
 use lib.Dec.{eqb}
 use Rattle.laws.specs.Choice.{pick}
 use Rattle.words.specs.declared.Config.{Config}
-use Rattle.arith.specs.declared.Operation.{Operation}
+use Rattle.words.specs.declared.Operation.{Operation}
 use Rattle.state.specs.declared.Core.{Core}
 use Rattle.state.specs.declared.Change.{Change}
 use Rattle.state.specs.Cores.{at, posting, flagged, indexed, moved, toRegister}

@@ -1,6 +1,7 @@
 // What an instruction of each kind changes, from the values that it reads. Every function is total: a sum that 64 bits do not hold wraps, and the promise
 // says so (`up`); machine, which has the core in its ranges, knows that none does.
 
+pub mod context;
 mod plans;
 mod values;
 
@@ -16,8 +17,8 @@ pub use plans::index_store;
 pub use plans::jump;
 pub use plans::leave_bank;
 pub use plans::leave_special;
-pub use plans::load;
 pub use plans::load_index;
+pub use plans::load_register;
 pub use plans::multiply;
 pub use plans::port_modify;
 pub use plans::port_read;
@@ -25,8 +26,8 @@ pub use plans::port_write;
 pub use plans::ret;
 pub use plans::ret_constant;
 pub use plans::skip;
-pub use plans::store;
 pub use plans::store_direct;
+pub use plans::store_register;
 pub use values::immediate_in;
 pub use values::special_register;
 pub use values::top_of;

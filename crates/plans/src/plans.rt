@@ -1,31 +1,37 @@
 // What an instruction of each kind changes, from the values that it reads; its own stops are tested here.
 ghost use mathlib.Core.Path.{_≡_};
-ghost use mathlib.Core.Bool.{_&&_};
-ghost use Prim.Native.Nat.{_+_, _-_, _*_, _/_, _%_, _^_};
+ghost use Prim.Native.Nat.{_+_, _-_, _*_, _/_, _%_};
 ghost use lib.Dec.{ltb, leb, eqb};
 ghost use lib.ListN.{getD, length};
 ghost use Rattle.laws.specs.Choice.{pick as choice};
 ghost use Rattle.laws.specs.Test.{imp};
 ghost use Rattle.arith.specs.Width.{one as flag};
-ghost use Rattle.arith.specs.declared.Form.the-variants.{Signed};
+ghost use Rattle.words.specs.declared.Form.the-variants.{Signed};
 ghost use Rattle.words.specs.Codes.{conditionAt};
 ghost use Rattle.state.specs.State.{top};
-ghost use Rattle.state.specs.Cores.{posting, flagged, indexed, multiplied, deep, masked, banked, taking, logging, none, write, change, stopped, moved, toRegister, toMemory, toStack, toLog};
+ghost use Rattle.state.specs.Cores.{posting, flagged, indexed, multiplied, deep, masked, banked, taking, logging, off, write, change, stopped, moved, toRegister, toMemory, toStack, toLog};
 ghost use Rattle.state.specs.Operands.{dataAddress, constant, conditionMet};
 ghost use Rattle.state.specs.Plans.{product, withTopBit};
 ghost use Rattle.plans.specs.Values.{up, went, onward, further, computed, compared};
+use crate::context;
 use crate::values::condition_met;
 use crate::values::cut;
 use crate::values::one;
 use crate::values::value_at;
 use crate::values::wide;
 use crate::values::with_top_bit;
-use arith::Form;
-use arith::Operation;
 use state::Change;
 use state::Core;
 use state::Write;
 use words::Config;
+use words::Form;
+use words::Operation;
+
+// "Data addresses are register values mod 65,536."
+const DATA_ADDRESSES: u32 = 65536;
+
+// How many values a cell of the return stack has.
+const STACK_WORDS: usize = 0x100000000;
 
 // The core at the next address.
 fn next(m: Core) -> Core
@@ -89,7 +95,7 @@ fn index_core(c: Config, m: Core, bit26: u32) -> Core
 pub fn index_store(c: Config, m: Core, bit26: u32, a: u32, x: u32) -> Change
     ensures { λ r. ⌜ r ≡ choice (ltb (dataAddress a) (c .dmsize)) (toMemory (flagged (further c (onward m)) bit26 (flag (eqb (m .rx) (m .ry))) 0) (dataAddress a) x) (stopped m 13) ⌝ }
 {
-    let t = a % 65536;
+    let t = a % DATA_ADDRESSES;
     if t < c.dmsize {
         return index_core(c, m, bit26).to_memory(t as usize, x);
     }
@@ -100,7 +106,7 @@ pub fn index_store(c: Config, m: Core, bit26: u32, a: u32, x: u32) -> Change
 pub fn index_load(c: Config, m: Core, bit26: u32, a: u32, i: usize, memory: &[u32]) -> Change
     ensures { λ r. ⌜ r ≡ choice (ltb (dataAddress a) (length (now (memory .entry)))) (toRegister (flagged (further c (onward m)) bit26 (flag (eqb (m .rx) (m .ry))) 0) i (getD (now (memory .entry)) (dataAddress a) 0)) (stopped m 13) ⌝ }
 {
-    let t = (a % 65536) as usize;
+    let t = (a % DATA_ADDRESSES) as usize;
     if t < memory.len() {
         return index_core(c, m, bit26).to_register(i, value_at(memory, t));
     }
@@ -115,10 +121,10 @@ pub fn assign(m: Core, i: usize, x: u32) -> Change
 }
 
 // MOV %d,@%s: a is the address register's value.
-pub fn load(m: Core, i: usize, a: u32, memory: &[u32]) -> Change
+pub fn load_register(m: Core, i: usize, a: u32, memory: &[u32]) -> Change
     ensures { λ r. ⌜ r ≡ choice (ltb (dataAddress a) (length (now (memory .entry)))) (toRegister (onward m) i (getD (now (memory .entry)) (dataAddress a) 0)) (stopped m 13) ⌝ }
 {
-    let t = (a % 65536) as usize;
+    let t = (a % DATA_ADDRESSES) as usize;
     if t < memory.len() {
         return next(m).to_register(i, value_at(memory, t));
     }
@@ -126,10 +132,10 @@ pub fn load(m: Core, i: usize, a: u32, memory: &[u32]) -> Change
 }
 
 // MOV @%d,%s.
-pub fn store(c: Config, m: Core, a: u32, x: u32) -> Change
+pub fn store_register(c: Config, m: Core, a: u32, x: u32) -> Change
     ensures { λ r. ⌜ r ≡ choice (ltb (dataAddress a) (c .dmsize)) (toMemory (onward m) (dataAddress a) x) (stopped m 13) ⌝ }
 {
-    let t = a % 65536;
+    let t = a % DATA_ADDRESSES;
     if t < c.dmsize {
         return next(m).to_memory(t as usize, x);
     }
@@ -167,7 +173,7 @@ pub fn port_read(c: Config, m: Core, i: usize, a: u32, inputs: &[u32]) -> Change
 
 // IORMW: a port read, and a write of the value with its top bit set.
 pub fn port_modify(c: Config, m: Core, i: usize, a: u32, inputs: &[u32], room: usize) -> Change
-    ensures { λ r. ⌜ r ≡ choice (imp (eqb (m .posted) 1) (eqb (m .port) a)) (choice (ltb (m .taken) (length (now (inputs .entry)))) (choice (ltb (m .logged) room) (change (posting (logging (taking (onward m))) 1 a) (write i (getD (now (inputs .entry)) (m .taken) 0 % top c)) none none (write (m .logged) a) (write (m .logged) (withTopBit c (getD (now (inputs .entry)) (m .taken) 0 % top c)))) (stopped m 15)) (stopped m 14)) (stopped m 9) ⌝ }
+    ensures { λ r. ⌜ r ≡ choice (imp (eqb (m .posted) 1) (eqb (m .port) a)) (choice (ltb (m .taken) (length (now (inputs .entry)))) (choice (ltb (m .logged) room) (change (posting (logging (taking (onward m))) 1 a) (write i (getD (now (inputs .entry)) (m .taken) 0 % top c)) off off (write (m .logged) a) (write (m .logged) (withTopBit c (getD (now (inputs .entry)) (m .taken) 0 % top c)))) (stopped m 15)) (stopped m 14)) (stopped m 9) ⌝ }
 {
     if !near(m, a) {
         return m.stopped(9);
@@ -182,11 +188,11 @@ pub fn port_modify(c: Config, m: Core, i: usize, a: u32, inputs: &[u32], room: u
     }
     let x = cut(c.regwidth, wide(inputs[t]));
     let y = with_top_bit(c, x);
-    let none = Write::none();
+    let off = Write::off();
     next(m).positioned(t + 1, l + 1).posting(a as u64).change(
         Write::to(i, x),
-        none,
-        none,
+        off,
+        off,
         Write::to(l, a),
         Write::to(l, y),
     )
@@ -228,7 +234,7 @@ pub fn call(limit: usize, m: Core, p: usize) -> Change
 {
     let d = m.depth;
     if d < limit {
-        let back = std::num::wrapping_add_usize(m.pc, 1) % 4294967296;
+        let back = std::num::wrapping_add_usize(m.pc, 1) % STACK_WORDS;
         return m.go(p).deep(d + 1).to_stack(d, back as u32);
     }
     m.stopped(10)
@@ -255,15 +261,15 @@ pub fn ret(m: Core, stack: &[u32]) -> Change
 
 // RLD: a return that loads a constant.
 pub fn ret_constant(c: Config, m: Core, i: usize, v: u32, stack: &[u32]) -> Change
-    ensures { λ r. ⌜ r ≡ choice (ltb 0 (m .depth)) (change (deep (went m (getD (now (stack .entry)) (m .depth - 1) 0)) (m .depth - 1)) (write i (constant c Signed v)) none (write (m .depth - 1) 0) none none) (stopped m 11) ⌝ }
+    ensures { λ r. ⌜ r ≡ choice (ltb 0 (m .depth)) (change (deep (went m (getD (now (stack .entry)) (m .depth - 1) 0)) (m .depth - 1)) (write i (constant c Signed v)) off (write (m .depth - 1) 0) off off) (stopped m 11) ⌝ }
 {
     let d = m.depth;
     if d == 0 {
         return m.stopped(11);
     }
     let x = arith::immediate(c.regwidth, Form::Signed, v);
-    let none = Write::none();
-    returned(m, d - 1, stack).change(Write::to(i, x), none, Write::to(d - 1, 0), none, none)
+    let off = Write::off();
+    returned(m, d - 1, stack).change(Write::to(i, x), off, Write::to(d - 1, 0), off, off)
 }
 
 // JSRWP: 12 where the new bank does not fit; x is the context that it stores.
@@ -281,12 +287,12 @@ pub fn enter_bank(c: Config, m: Core, unit: u32, p: u32, x: u32) -> Change
 pub fn leave_bank(c: Config, m: Core, x: u32) -> Change
     ensures { λ r. ⌜ r ≡ choice (leb (16 * (x / 0x4000000) + c .regsize) (c .rmsize)) (moved (masked (flagged (banked (went m (x % 65536)) (16 * (x / 0x4000000))) 0 (x / 0x100000 % 2) (x / 0x200000 % 2)) (x / 65536 % 16) (m .saved) (m .mode))) (stopped m 12) ⌝ }
 {
-    let w = 16 * ((x / 67108864) as usize);
+    let w = 16 * ((x / context::BANK) as usize);
     if w + (c.regsize as usize) <= c.rmsize as usize {
-        let z = (x / 1048576 % 2) as u64;
-        let n = (x / 2097152 % 2) as u64;
-        let mask = (x / 65536 % 16) as u64;
-        return m.go((x % 65536) as usize)
+        let z = (x / context::Z % 2) as u64;
+        let n = (x / context::N % 2) as u64;
+        let mask = (x / context::IMASK % context::IMASKS) as u64;
+        return m.go((x % context::PCS) as usize)
             .banked(w)
             .flagged(0, z, n)
             .masked(mask, m.saved, m.mode)

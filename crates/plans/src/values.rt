@@ -1,16 +1,17 @@
 // What an instruction reads: cells, operands, special registers, conditions. Readers of memories are total: past the end a cell is 0.
 ghost use mathlib.Core.Path.{_≡_};
 ghost use Prim.Native.Nat.{_+_, _*_, _/_, _%_, _^_, _≤_, _<_};
-ghost use lib.ListN.{getD, length};
-ghost use Rattle.laws.specs.Choice.{pick as choice};
+ghost use lib.ListN.{getD};
 ghost use Rattle.arith.specs.Width.{bits, half};
 ghost use Rattle.arith.specs.Width.{one as flag};
 ghost use Rattle.state.specs.State.{top};
 ghost use Rattle.words.specs.Codes.{formAt, conditionAt};
 ghost use Rattle.state.specs.Operands.{constant, conditionMet, log2, specialRegister};
 ghost use Rattle.state.specs.Plans.{withTopBit};
-use arith::Form;
 use words::Config;
+use words::Form;
+use words::entries;
+use words::layout;
 
 pub fn value_at(xs: &[u32], i: usize) -> u32
     ensures { λ r. ⌜ r ≡ getD (now (xs .entry)) i 0 ⌝ }
@@ -47,8 +48,8 @@ pub fn cut(width: u32, x: u64) -> u32
 pub fn immediate_in(c: Config, e: u32, w: u32) -> u32
     ensures { λ r. ⌜ r ≡ constant c (formAt (e / 4096 % 4)) (w % 65536) ⌝ }
 {
-    let v = w % 65536;
-    let form = e / 4096 % 4;
+    let v = w % layout::LOWER_VALUES;
+    let form = e / entries::FORM % entries::FORMS;
     if form == 0 {
         return arith::immediate(c.regwidth, Form::Signed, v);
     }

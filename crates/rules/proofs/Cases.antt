@@ -13,19 +13,24 @@ use Rattle.words.specs.Words.{partsOf}
 use Rattle.arith.specs.Width.{bits, one}
 use Rattle.state.specs.Ranges.{inRanges, guards}
 use Rattle.state.specs.Operands.{operand, conditionMet, log2, specialRegister}
-use Rattle.state.specs.Plans.{jumpPlan, branchPlan, callPlan, returnPlan, enterSpecialPlan, leaveSpecialPlan, movePlan, portWritePlan, planOf}
+use Rattle.state.specs.Plans.{jumpPlan, branchPlan, callPlan, retPlan, enterSpecialPlan, leaveSpecialPlan, movePlan, portWritePlan, planOf}
 use Rattle.state.specs.Stops.{stops9to15, stops}
 use Rattle.state.specs.Step.{number, putOf, applied, planAt, cyclesOf, advanceOf, stepOf}
 use Rattle.state.specs.Run.{runOf, runCall}
 use Rattle.rules.specs.Calls.{callOf, trace}
+use Rattle.rules.specs.Successors.{successors}
 use Rattle.rules.specs.Rules.{rules}
 use Rattle.rules.specs.Check.{firstBroken, checkOf}
-use Rattle.rules.specs.Cases.{CertificateCases, CallCases}
+use Rattle.rules.specs.Cases.{CertificateCases, SuccessorCases, CallCases}
 
 pub certificate-cases : CertificateCases
-unfolding pick lawful inRange available marksOf factsFor rows rowAt classOf fieldOf codeAt choices rowIn rowOf flagIn layoutOf upperIn lowerIn valueIn fieldsIn spread fits refusals567 answered partsBy readBy readLawful stackLimit rules firstBroken checkOf
+unfolding pick lawful inRange available marksOf factsFor rows rowAt classOf fieldOf codeAt choices rowIn rowOf flagIn layoutOf upperIn lowerIn valueIn fieldsIn spread fits refusals567 answered partsBy readBy readLawful stackLimit successors rules firstBroken checkOf
 certificate-cases = tt
 
+pub successor-cases : SuccessorCases
+unfolding pick marksOf factsFor successors
+successor-cases = refl
+
 pub call-cases : CallCases
-unfolding pick lawful inRange available marksOf factsFor rows rowAt classOf fieldOf codeAt choices rowIn rowOf flagIn layoutOf upperIn lowerIn valueIn fieldsIn spread fits refusals567 partsBy partsOf stackLimit inRanges guards operand conditionMet log2 specialRegister jumpPlan branchPlan callPlan returnPlan enterSpecialPlan leaveSpecialPlan movePlan portWritePlan planOf stops9to15 stops number putOf applied planAt cyclesOf advanceOf stepOf runOf runCall callOf trace bits one
+unfolding pick lawful inRange available marksOf factsFor rows rowAt classOf fieldOf codeAt choices rowIn rowOf flagIn layoutOf upperIn lowerIn valueIn fieldsIn spread fits refusals567 partsBy partsOf stackLimit inRanges guards operand conditionMet log2 specialRegister jumpPlan branchPlan callPlan retPlan enterSpecialPlan leaveSpecialPlan movePlan portWritePlan planOf stops9to15 stops number putOf applied planAt cyclesOf advanceOf stepOf runOf runCall callOf trace bits one
 call-cases = refl

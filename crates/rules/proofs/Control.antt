@@ -1,13 +1,13 @@
 -- Each way that control can go keeps the invariant's control part, under the rules.
 -- Assumes nothing.
-use Prim.Native.Nat.{ℕ, zero, suc, _+_, _-_, _<_, _≤_, min}
-use mathlib.Core.Path.{_≡_, refl, _∙_}
+use Prim.Native.Nat.{ℕ, zero, suc, _+_, _-_, _<_, _≤_}
+use mathlib.Core.Path.{_≡_, refl, _∙_, ap}
 use mathlib.Core.Logic.{_⊎_, inl, inr}
-use mathlib.Core.Bool.{Bool, not, _&&_, _||_}
+use mathlib.Core.Bool.{Bool, true, false, not, _&&_, _||_}
 use mathlib.Core.List.{List}
 use native.Mathlib.Omega.{arith}
 use native.Mathlib.Decide.{decLt}
-use lib.Dec.{T, eqb, T-not}
+use lib.Dec.{T, T-not}
 use lib.ListN.{length, getD, set, length-set}
 use lib.Seq.{getD-set-same, getD-set-other}
 use Rattle.laws.specs.Choice.{pick}
@@ -20,9 +20,11 @@ use Rattle.state.specs.declared.Write.{Write}
 use Rattle.state.specs.Stops.{stop8, specials}
 use Rattle.state.specs.Step.{putOf}
 use Rattle.rules.specs.Marks.{markAt, levelOf, modeOf}
-use Rattle.rules.specs.Rules.{readsPort}
+use Rattle.rules.specs.Successors.{successor, successors}
+use Rattle.rules.specs.Rules.{modeAfter, readsPort}
 use Rattle.rules.specs.Invariant.{Spot, Control}
-use Rattle.rules.proofs.Moves.{Mode, entered, left, kept, Moves, to-next, to-target, to-call, to-saved, to-barred}
+use Rattle.rules.proofs.Successors.{_∈_}
+use Rattle.rules.proofs.Moves.{Moves, to-successor, to-call, to-saved, to-barred, silent}
 use Rattle.rules.proofs.Kept.{Kept}
 
 -- what special-register mode does not allow stands in normal mode
@@ -41,49 +43,34 @@ module _ (c : Config) (image certificate : List ℕ) (i : Instruction) (f : Fact
     (k : Kept c certificate (m .pc) i f (readsPort c image (m .pc + 1)))
     (v : Control c image certificate (m .pc) (m .depth) stack (m .mode) (m .posted))
     (top : levelOf (markAt certificate 0) ≤ 63) where
-  next-mode : {mode : ℕ} → Mode f (m .mode) mode → modeOf (markAt certificate (m .pc + 1)) ≡ mode
-  next-mode (entered t) = k .enters-mode t
-  next-mode (left t) = k .leaves-mode t
-  next-mode (kept t) = k .next-mode t ∙ v .here .mode
-
-  at-next : T (f .next) → (mode : ℕ) → modeOf (markAt certificate (m .pc + 1)) ≡ mode → Spot c certificate (m .pc + 1) (m .depth) mode
-  at-next u mode q =
+  -- at a successor: one more address on the stack where it is reached by call
+  lands : (a : ℕ) (b : Bool) →
+      successor a b ∈ successors f (m .pc) (i .value) →
+      Spot c certificate a (pick b (m .depth + 1) (m .depth)) (modeAfter f (m .mode))
+  unfolding pick
+  lands a true e =
+      let h = k .follows (successor a true) e in
       record {
-        below = k .next u .0;
-        used = k .next u .1;
-        level = omega (arith, k .next-level u, v .here .level);
-        sub = k .next-mark u ∙ v .here .sub;
-        mode = q;
+        below = h .below;
+        used = h .used;
+        level = omega (arith, h .lower tt, v .here .level);
+        sub = omega (arith, h .sub);
+        mode = h .mode ∙ ap (modeAfter f) (v .here .mode);
       }
-
-  at-target : T (f .target) → T (f .target && not (f .calls)) → Spot c certificate (i .value) (m .depth) (m .mode)
-  at-target u n =
+  lands a false e =
+      let h = k .follows (successor a false) e in
       record {
-        below = k .target u .0;
-        used = k .target u .1;
-        level = omega (arith, k .target-level u, v .here .level);
-        sub = k .target-mark n ∙ v .here .sub;
-        mode = k .target-mode u ∙ v .here .mode;
-      }
-
-  at-entry : T (f .target) → T (f .calls) → Spot c certificate (i .value) (m .depth + 1) (m .mode)
-  at-entry u l =
-      record {
-        below = k .target u .0;
-        used = k .target u .1;
-        level = omega (arith, k .call-level l, v .here .level);
-        sub = omega (arith, k .call-mark l);
-        mode = k .target-mode u ∙ v .here .mode;
+        below = h .below;
+        used = h .used;
+        level = omega (arith, h .level, v .here .level);
+        sub = h .sub ∙ v .here .sub;
+        mode = h .mode ∙ ap (modeAfter f) (v .here .mode);
       }
 
   -- control is in normal mode
   in-normal : T (not (f .leaves || f .reveals)) → m .mode ≡ 0
   in-normal n =
       let z = normal f (i .source) (modeOf (markAt certificate (m .pc))) (omega arith) (k .special) n in omega (arith, v .here .mode)
-
-  -- nothing is posted
-  silent : {A : Type 0} → _≡_ {A = ℕ} 0 1 → A
-  silent z = let x : ⊥ = omega arith in absurd x
 
   pushed : Spot c certificate (m .pc + 1) (m .depth) 0 →
       m .depth < length stack →
@@ -105,16 +92,13 @@ module _ (c : Config) (image certificate : List ℕ) (i : Instruction) (f : Fact
       Moves f (i .value) m stack pc depth w mode posted →
       Control c image certificate pc depth (putOf w stack) mode posted
   unfolding putOf pick
-  moved-control (to-next {mode} u q o) =
-      record { here = at-next u mode (next-mode q); saved = v .saved; places = v .places; quiet = λ z t. k .port (o z) t }
-  moved-control (to-target u n) =
-      record { here = at-target u n; saved = v .saved; places = v .places; quiet = λ z t. silent z }
-  moved-control (to-call u l x q n) =
-      let z = in-normal n in
-      let s = at-next x 0 (k .next-mode q ∙ (v .here .mode ∙ z)) in
-      let d : m .depth < length stack = omega (arith, k .call-level l, v .here .level, v .places) in
+  moved-control (to-successor {a} e o) =
+      record { here = lands a false e; saved = v .saved; places = v .places; quiet = λ z t. k .port (o z .0) (rw (o z .1) at t) }
+  moved-control (to-call e n q w) =
+      let s = rw (ap (modeAfter f) (in-normal w) ∙ q) at (lands (m .pc + 1) false n) in
+      let d : m .depth < length stack = omega (arith, k .follows _ e .lower tt, v .here .level, v .places) in
       record {
-        here = at-entry u l;
+        here = lands (i .value) true e;
         saved = pushed s d;
         places = length-set stack (m .depth) (m .pc + 1) ∙ v .places;
         quiet = λ z t. silent z;

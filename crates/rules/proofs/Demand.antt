@@ -2,30 +2,30 @@
 -- Assumes nothing.
 use Prim.Native.Nat.{ℕ, zero, suc, _+_, _<_, _≤_}
 use mathlib.Core.Path.{_≡_, refl, _∙_, sym, ap}
-use mathlib.Core.Logic.{_⊎_, inl, inr}
+use mathlib.Core.Logic.{inl, inr}
 use mathlib.Core.List.{List, [], _∷_, _++_}
 use native.Mathlib.Omega.{arith}
-use lib.Dec.{T, eqb, leb, not-T, nleb→lt}
+use lib.Dec.{eqb, leb, not-T, nleb→lt}
 use lib.ListN.{length, replicate, length-replicate}
-use Rattle.laws.specs.Choice.{pick, pick-yes, either}
-use Rattle.laws.specs.Test.{Below, Member, eq→eqb, Holds}
+use Rattle.laws.specs.Choice.{pick-yes, either}
+use Rattle.laws.specs.Test.{Below, Member, eq→eqb}
 use Rattle.laws.specs.First.{Every, first-failing, skip}
 use Rattle.words.specs.declared.Config.{Config}
-use Rattle.state.specs.State.{Env, State, env, top, resetMachine}
+use Rattle.state.specs.State.{Env, State, env, top}
 use Rattle.state.specs.Ranges.{guards, budgetFits}
-use Rattle.state.specs.Step.{Outcome, refused, advanceOf, stepOf}
+use Rattle.state.specs.Step.{refused, advanceOf, stepOf}
 use Rattle.state.specs.Run.{Run, ended, after, runOf, runCall}
-use Rattle.state.proofs.Good.{Bounds, bounds, top-byte, Good, good, valid, passes}
+use Rattle.state.proofs.Ranges.{bounds, top-byte, Good, good, valid, passes}
 use Rattle.rules.specs.Marks.{markAt, levelOf}
-use Rattle.rules.specs.Check.{Answer, checkOf, passed, Passes}
+use Rattle.rules.specs.Check.{Answer, checkOf, Passes}
 use Rattle.rules.specs.Calls.{Call, step, run, Done, callOf, trace}
 use Rattle.rules.specs.Demand.{May, no-data, no-input, no-room, too-long, Fine, atReset, Demand3, Answered, Demand3Answers}
 use Rattle.rules.specs.Demand as demand
 use Rattle.rules.specs.Claims.{Checks}
-use Rattle.rules.specs.Invariant.{Spot, Control, Invariant}
+use Rattle.rules.specs.Invariant.{Invariant}
 use Rattle.rules.proofs.Exact.{exact}
 use Rattle.rules.proofs.First.{names-first}
-use Rattle.rules.proofs.Stepping.{Start, start, advanced-keeps, advanced-allowed, low}
+use Rattle.rules.proofs.Stepping.{start, advanced-keeps, advanced-allowed, low}
 
 -- a fact of every state of a list, and of one more
 every-last : (P : State → Type 0) (ss : List State) (s : State) → Every P ss → P s → Every P (ss ++ (s ∷ []))

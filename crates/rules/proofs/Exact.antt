@@ -10,13 +10,13 @@ use native.Mathlib.Omega.{arith}
 use lib.Dec.{T, eqb, eqb→eq}
 use lib.ListN.{length}
 use Rattle.laws.specs.Choice.{pick, pick-yes, pick-no}
-use Rattle.laws.specs.Test.{test, Holds, holds, tests, eq→eqb}
-use Rattle.laws.specs.First.{Obeyed, first-failing, numbered, obeyed, none-fails}
+use Rattle.laws.specs.Test.{test, holds, tests, eq→eqb}
+use Rattle.laws.specs.First.{Obeyed, numbered, obeyed, none-fails}
 use Rattle.words.specs.declared.Config.{Config}
 use Rattle.words.specs.Configs.{lawful}
 use Rattle.rules.specs.Marks.{markAt, levelOf}
 use Rattle.rules.specs.Rules.{rules, rulesAt}
-use Rattle.rules.specs.Check.{Answer, passed, refused, broken, sized, lowest, firstBroken, checkOf, Passes, Exactly, Exact}
+use Rattle.rules.specs.Check.{Answer, passed, refused, broken, sized, lowest, firstBroken, checkOf, Passes, Exact}
 
 -- a choice between two answers of which the second is no pass
 chosen : (b : Bool) (x y : Answer) → (y .number ≡ 0 → ⊥) → pick b x y .number ≡ 0 → T b × (x .number ≡ 0)

@@ -1,5 +1,6 @@
 pub mod Exact
 pub mod First
+pub mod Successors
 pub mod Moves
 pub mod Kept
 pub mod Control

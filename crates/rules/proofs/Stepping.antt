@@ -1,9 +1,9 @@
 -- In a state of the invariant a step can be stopped only by 13, 14 and 15, and it keeps the invariant.
 -- Assumes nothing.
 use Prim.Native.Nat.{ℕ, _+_, _<_, _≤_}
-use mathlib.Core.Path.{_≡_, refl, _∙_, sym}
+use mathlib.Core.Path.{_≡_}
 use mathlib.Core.Logic.{_⊎_, inl, inr}
-use mathlib.Core.Bool.{Bool, _&&_}
+use mathlib.Core.Bool.{_&&_}
 use mathlib.Core.List.{List}
 use native.Mathlib.Omega.{arith}
 use lib.Dec.{T, eqb, eqb→eq}
@@ -12,20 +12,20 @@ use Rattle.laws.specs.Choice.{either}
 use Rattle.laws.specs.Test.{Holds, and-left, and-right}
 use Rattle.laws.specs.First.{Every, Obeyed, allowed}
 use Rattle.laws.specs.Lists.{_also_}
-use Rattle.words.specs.declared.Config.{Config}
 use Rattle.words.specs.Rows.{rowAt}
 use Rattle.words.specs.Words.{refusals567}
 use Rattle.state.specs.State.{Env, State, stackLimit}
 use Rattle.state.specs.Operands.{viewOf}
 use Rattle.state.specs.Stops.{partsAt, kindAt, factsAt, stop8, stops, stops9to15}
 use Rattle.state.specs.Step.{Outcome, refused, number, applied, planAt, advanceOf}
-use Rattle.state.proofs.Good.{Bounds, bounds, good, valid}
+use Rattle.state.proofs.Ranges.{Bounds, bounds, good, valid}
 use Rattle.state.proofs.StaysValid.{stays-good}
 use Rattle.rules.specs.Marks.{markAt, used, levelOf, subOf, modeOf}
 use Rattle.rules.specs.Rules.{rules, rulesAt, readsPort}
 use Rattle.rules.specs.Check.{Passes}
-use Rattle.rules.specs.Invariant.{Spot, Control, Invariant}
-use Rattle.rules.proofs.Moves.{MovesBy, planned, bank-barred, back-barred, plan-moves}
+use Rattle.rules.specs.Invariant.{Control, Invariant}
+use Rattle.rules.proofs.Successors.{target-in}
+use Rattle.rules.proofs.Moves.{MovesBy, planned, bank-barred, back-barred, callee, plan-moves}
 use Rattle.rules.proofs.Kept.{Kept, kept-rules, passes-567, seen-reading}
 use Rattle.rules.proofs.Control.{moved-control}
 
@@ -73,7 +73,7 @@ module _ (e : Env) (certificate : List ℕ) (ok : Passes (e .config) (e .image) 
         inl (r .1 .1 .0) also
         inl special also
         inl no-reading also
-        inl (λ t. omega (arith, k .call-level t, p .level, top-level)) also
+        inl (λ t. omega (arith, lower t, p .level, top-level)) also
         inl (λ t. omega (arith, k .return-mark t, p .sub)) also
         inl ((λ t. absurd (k .free (bank-barred n (r .0) t))) also (λ t. absurd (k .free (back-barred n (r .0) t)))) also
         inr x also
@@ -83,6 +83,11 @@ module _ (e : Env) (certificate : List ℕ) (ok : Passes (e .config) (e .image) 
       where
         special : Holds (stop8 (s .core .mode) (partsAt e s .source) (factsAt e s))
         special = rw (v .control .here .mode) at (keeps .special)
+
+        lower : T (factsAt e s .calls) → levelOf (markAt certificate (partsAt e s .value)) < levelOf (markAt certificate pc)
+        lower t =
+            let u = callee (partsAt e s .row) (reads .0) (keeps .free) t in
+            keeps .follows _ (target-in (factsAt e s) pc (partsAt e s .value) u) .lower t
 
         no-reading : T (factsAt e s .input && eqb (s .core .posted) 1) → s .core .port ≡ getD (s .registers) (s .core .wp + partsAt e s .source) 0
         no-reading t =

@@ -1,14 +1,17 @@
 -- Cases of the check, computed: a certificate that passes, and copies of it and of its program, each changed in one or two places, with what the check
 -- answers. One for each clause of each rule.
 use Prim.Native.Nat.{ℕ}
-use mathlib.Core.Bool.{Bool, true, _&&_}
+use mathlib.Core.Bool.{Bool, true, false, _&&_}
 use mathlib.Core.List.{List, [], _∷_, _++_}
 use lib.Dec.{T, eqb}
 use mathlib.Core.Path.{_≡_}
 use lib.ListN.{length, replicate, set}
 use Rattle.laws.specs.Lists.{column}
 use Rattle.words.specs.declared.Config.{Config}
+use Rattle.words.specs.Kinds.{ret, ret-constant, jump, branch, Z, call, move}
+use Rattle.words.specs.Facts.{factsFor}
 use Rattle.state.specs.State.{env}
+use Rattle.rules.specs.Successors.{successor, successors}
 use Rattle.rules.specs.Calls.{Call, step, run, Done, trace}
 use Rattle.rules.specs.Demand.{atReset}
 use Rattle.rules.specs.Check.{Answer, passed, refused, broken, checkOf}
@@ -126,12 +129,14 @@ cases =
     (word 4 0xc0000000 ∷ [], broken 4 6) ∷
     (mark 0 0 ∷ [], broken 0 6) ∷
     (mark 0 0 ∷ mark 1 4 ∷ [], broken 0 6) ∷  -- and not 2 at address 1
-    -- 7: SPR_ON in special mode, its successor normal, after SPR_OFF special, another register in special mode, a JMP and a MOV that change the mode
+    -- 7: SPR_ON in special mode, its successor normal, after SPR_OFF special, another register in
+    -- special mode, a MOVIO, a JSR and a JMP that change the mode
     (word 6 0xf0050000 ∷ [], broken 6 7) ∷
     (mark 6 64 ∷ [], broken 5 7) ∷
     (mark 8 192 ∷ [], broken 7 7) ∷
     (word 6 0xa0050004 ∷ [], broken 6 7) ∷
     (mark 2 128 ∷ [], broken 1 7) ∷
+    (mark 5 192 ∷ [], broken 0 7) ∷
     (word 8 0xc0000007 ∷ [], broken 8 7) ∷
     -- 8: a port read and an IORMW after a port write, a port read after an IORMW
     (word 2 0xb1030004 ∷ [], broken 1 8) ∷
@@ -157,6 +162,19 @@ all-right (c ∷ cs) = right c && all-right cs
 -- the one claim
 abbrev pub CertificateCases : Type 0
 CertificateCases = T (all-right cases)
+
+-- "none for RET, RLD; the target for JMP always; target and next for other JMP and JSR; next
+-- otherwise": at address 7, with target 3
+abbrev pub SuccessorCases : Type 0
+SuccessorCases =
+    column (λ k. successors (factsFor k) 7 3) (ret ∷ ret-constant ∷ jump ∷ branch Z ∷ call ∷ move ∷ []) ≡
+    ([] ∷
+    [] ∷
+    (successor 3 false ∷ []) ∷
+    (successor 8 false ∷ successor 3 false ∷ []) ∷
+    (successor 8 false ∷ successor 3 true ∷ []) ∷
+    (successor 8 false ∷ []) ∷
+    [])
 
 -- A list of calls from reset on the program above, with room for one entry in the log: the number that each answers, the PC and the return stack that it
 -- leaves, and how many states it passes through.

@@ -1,4 +1,5 @@
 pub mod Marks
+pub mod Successors
 pub mod Rules
 pub mod Check
 pub mod Calls

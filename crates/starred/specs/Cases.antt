@@ -6,12 +6,10 @@ use lib.Dec.{T, eqb}
 use lib.ListN.{getD, set, replicate}
 use Rattle.words.specs.declared.Config.{Config}
 use Rattle.words.specs.Words.{readOf}
-use Rattle.arith.specs.declared.Word.{Word}
-use Rattle.arith.specs.declared.Product.{Product}
-use Rattle.arith.specs.declared.Operation.{Operation}
-use Rattle.arith.specs.declared.Operation.the-variants.{Add, Sub, Subs, Shl, Shr, Abs, Clz}
+use Rattle.words.specs.declared.Operation.{Operation}
+use Rattle.words.specs.declared.Operation.the-variants.{Add, Sub, Subs, Shl, Shr, Abs, Clz}
 use Rattle.state.specs.declared.Core.{Core}
-use Rattle.state.specs.State.{Env, State, env, state}
+use Rattle.state.specs.State.{env, state}
 use Rattle.state.specs.Plans.{alu, product}
 use Rattle.state.specs.Step.{Outcome, stepOf}
 

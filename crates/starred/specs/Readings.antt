@@ -7,8 +7,7 @@ use Rattle.laws.specs.Choice.{pick}
 use Rattle.words.specs.declared.Config.{Config}
 use Rattle.words.specs.Words.{partsOf, readOf}
 use Rattle.words.specs.Facts.{factsOf}
-use Rattle.arith.specs.declared.Operation.{Operation}
-use Rattle.arith.specs.declared.Operation.the-variants.{Abs}
+use Rattle.words.specs.declared.Operation.the-variants.{Abs}
 use Rattle.starred.specs.Cases.{configured, full, Case, computes, all-right}
 
 -- the full core with a data memory of n words
@@ -39,13 +38,18 @@ withData n =
 pub data Reading : Type 0 where
   answers : Config → ℕ → ℕ → Reading  -- a word in a configuration, and the number that reading it answers
   bit26 : ℕ → ℕ → Reading  -- a word, and its bit 26 as it is read
+  parts : ℕ → ℕ → ℕ → ℕ → Reading  -- a word, and its destination, source and value as they are read
   bars : ℕ → ℕ → Reading  -- a word, and 1 where rule 3 bars its instruction
   result : Case → Reading
 
 abbrev pub so : Reading → Bool
 so (answers c w n) = eqb (readOf c w .number) n
 so (bit26 w x) = eqb (readOf full w .number) 0 && eqb (readOf full w .instruction .flag) x
-so (bars w x) = eqb (readOf full w .number) 0 && eqb (pick (factsOf (partsOf w .row) .barred) 1 0) x
+so (parts w d s v) =
+    let r = readOf full w in
+    let i = r .instruction in
+    eqb (r .number) 0 && (eqb (i .destination) d && (eqb (i .source) s && eqb (i .value) v))
+so (bars w x) = eqb (readOf full w .number) 0 && eqb (pick (factsOf (partsOf full w .row) .barred) 1 0) x
 so (result k) = all-right (k ∷ [])
 
 abbrev pub readings : List Reading
@@ -58,6 +62,24 @@ readings =
     answers (configured 32 64 0) 0x81000001 0 ∷
     answers (configured 32 64 0) 0x81000000 7 ∷  -- a count is 1 at level 0
     bit26 0x04000000 1 ∷
+    -- which column a register stands in: a case for each kind that has one
+    parts 0x40010002 1 2 0 ∷  -- ADD %01,%02
+    parts 0x98040201 4 1 0 ∷  -- BLD0 %04,%01
+    parts 0x98041402 4 2 0 ∷  -- LDYX %04,%02
+    parts 0x98051800 5 0 0 ∷  -- MOVX @%05,@%X+
+    parts 0x98001c05 0 5 0 ∷  -- MOVX @%X+,@%05
+    parts 0xa0030004 3 4 0 ∷  -- MOV %03,%04
+    parts 0xa2830005 3 0 5 ∷  -- MOV %03,#0005
+    parts 0xa1030004 3 4 0 ∷  -- MOV %03,@%04
+    parts 0xa1830005 3 0 5 ∷  -- MOV %03,&0005
+    parts 0xa8030004 3 4 0 ∷  -- MOV @%03,%04
+    parts 0xac030005 3 0 5 ∷  -- MOV &0005,%03
+    parts 0xb1030004 3 4 0 ∷  -- MOVIO %03,@%04
+    parts 0xb8030004 3 4 0 ∷  -- MOVIO @%03,%04
+    parts 0xc8030000 3 0 0 ∷  -- JMP @%03
+    parts 0xf8830000 3 0 0 ∷  -- JSR @%03
+    parts 0xf2830005 3 0 5 ∷  -- RLD %03,#0005
+    parts 0xf1020040 2 0 64 ∷  -- JSRWP 0040,020
     bars 0xc8000000 1 ∷  -- JMP @%d
     bars 0xc0000000 0 ∷  -- JMP target
     result (computes Abs 0 0xffffffff 1 0 1) ∷  -- N of ABS is the source's sign, not the result's

@@ -1,8 +1,8 @@
 pub mod Unchanged
-pub mod Running
-pub mod Good
-pub mod Told
-pub mod Kept
-pub mod Apply
-pub mod Sound
+pub mod Run
+pub mod Ranges
+pub mod Stops
+pub mod Cores
+pub mod Step
+pub mod Plans
 pub mod StaysValid

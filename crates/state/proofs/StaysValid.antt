@@ -12,10 +12,10 @@ use Rattle.state.specs.Ranges.{guards}
 use Rattle.state.specs.Step.{Outcome, refused, number, planAt, advanceOf, stepOf}
 use Rattle.state.specs.Run.{Run, ended, after, runOf}
 use Rattle.state.specs.Claims.{Valid, StaysValid}
-use Rattle.state.proofs.Good.{Good, good, valid, accepted}
-use Rattle.state.proofs.Told.{told}
-use Rattle.state.proofs.Apply.{Landing, applied-good}
-use Rattle.state.proofs.Sound.{plan-sound}
+use Rattle.state.proofs.Ranges.{Good, good, valid, accepted}
+use Rattle.state.proofs.Stops.{told}
+use Rattle.state.proofs.Step.{Landing, applied-good}
+use Rattle.state.proofs.Plans.{plan-sound}
 
 pub stays-good : (e : Env) (s : State) → Good e s → Good e (advanceOf e s .state)
 unfolding advanceOf

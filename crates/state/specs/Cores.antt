@@ -1,5 +1,5 @@
 -- The core after one small change: what a step is put together from. The methods of Core hand these back.
-use Prim.Native.Nat.{ℕ, _+_, _-_, _*_}
+use Prim.Native.Nat.{ℕ, _+_, _-_}
 use lib.Dec.{eqb}
 use Rattle.laws.specs.Choice.{pick, decided}
 use Rattle.state.specs.declared.Core.{Core}
@@ -86,8 +86,8 @@ logging m = positioned m (m .taken) (m .logged + 1)
 
 -- writes and changes
 
-abbrev pub none : Write
-none = record { on = false; at = 0; value = 0 }
+abbrev pub off : Write
+off = record { on = false; at = 0; value = 0 }
 
 abbrev pub write : ℕ → ℕ → Write
 write i v = record { on = true; at = i; value = v }
@@ -98,19 +98,19 @@ change m reg dm stack logat logval =
 
 -- "A refusal changes nothing"
 abbrev pub stopped : Core → ℕ → Change
-stopped m n = record { stop = n; core = m; reg = none; dm = none; stack = none; logat = none; logval = none }
+stopped m n = record { stop = n; core = m; reg = off; dm = off; stack = off; logat = off; logval = off }
 
 abbrev pub moved : Core → Change
-moved m = change m none none none none none
+moved m = change m off off off off off
 
 abbrev pub toRegister : Core → ℕ → ℕ → Change
-toRegister m i v = change m (write i v) none none none none
+toRegister m i v = change m (write i v) off off off off
 
 abbrev pub toMemory : Core → ℕ → ℕ → Change
-toMemory m i v = change m none (write i v) none none none
+toMemory m i v = change m off (write i v) off off off
 
 abbrev pub toStack : Core → ℕ → ℕ → Change
-toStack m i v = change m none none (write i v) none none
+toStack m i v = change m off off (write i v) off off
 
 abbrev pub toLog : Core → ℕ → ℕ → ℕ → Change
-toLog m i a v = change m none none none (write i a) (write i v)
+toLog m i a v = change m off off off (write i a) (write i v)

@@ -1,15 +1,13 @@
 -- What an instruction reads: registers of the active bank, immediates, special registers, the condition of a jump.
-use Prim.Native.Nat.{ℕ, _+_, _*_, _/_, _%_}
+use Prim.Native.Nat.{ℕ, _+_, _*_, _%_}
 use mathlib.Core.Bool.{Bool, false, not, _&&_, _||_}
 use mathlib.Core.List.{List, [], _∷_}
 use lib.Dec.{leb, eqb}
 use lib.ListN.{length, getD}
-use Rattle.laws.specs.Choice.{pick}
 use Rattle.words.specs.declared.Config.{Config}
-use Rattle.words.specs.declared.Instruction.{Instruction}
 use Rattle.words.specs.Kinds.{Operand, from-register, literal, short-literal, counted}
 use Rattle.words.specs.Kinds.{Condition, Z, NZ, GT, LT, GE, LE, NIRQ, B0, B1, NB0, NB1, BIO}
-use Rattle.arith.specs.declared.Form.{Form}
+use Rattle.words.specs.declared.Form.{Form}
 use Rattle.arith.specs.Width.{bits, one}
 use Rattle.arith.specs.Immediates.{immediateOf}
 use Rattle.state.specs.declared.Core.{Core}

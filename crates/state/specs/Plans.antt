@@ -6,19 +6,19 @@ use Rattle.laws.specs.Choice.{pick}
 use Rattle.words.specs.declared.Config.{Config}
 use Rattle.words.specs.declared.Instruction.{Instruction}
 use Rattle.words.specs.Kinds.{Operand, from-register, Condition}
-use Rattle.words.specs.Kinds.{Kind, unsupported, compute, compare, multiply, bytewise, load-index, index-store, index-load, move, load-constant, load-register, load-direct, store-register, store-direct, port-read, port-modify, port-write, jump, branch, jump-register, branch-register, call, call-register, return, return-constant, enter-bank, leave-bank, enter-special, leave-special}
-use Rattle.arith.specs.declared.Form.{Form}
-use Rattle.arith.specs.declared.Form.the-variants.{Signed}
+use Rattle.words.specs.Kinds.{Kind, unsupported, compute, compare, multiply, bytewise, load-index, index-store, index-load, move, load-constant, load-register, load-direct, store-register, store-direct, port-read, port-modify, port-write, jump, branch, jump-register, branch-register, call, call-register, ret, ret-constant, enter-bank, leave-bank, enter-special, leave-special}
+use Rattle.words.specs.declared.Form.{Form}
+use Rattle.words.specs.declared.Form.the-variants.{Signed}
 use Rattle.arith.specs.declared.Word.{Word}
 use Rattle.arith.specs.declared.Product.{Product}
-use Rattle.arith.specs.declared.Operation.{Operation}
+use Rattle.words.specs.declared.Operation.{Operation}
 use Rattle.arith.specs.Width.{bits, one, half}
 use Rattle.arith.specs.Alu.{aluOf}
 use Rattle.arith.specs.Multiply.{mulOf}
 use Rattle.state.specs.declared.Core.{Core}
 use Rattle.state.specs.declared.Change.{Change}
 use Rattle.state.specs.State.{top}
-use Rattle.state.specs.Cores.{at, posting, next, flagged, indexed, multiplied, deep, masked, banked, taking, logging, none, write, change, moved, toRegister, toMemory, toStack, toLog}
+use Rattle.state.specs.Cores.{at, posting, next, flagged, indexed, multiplied, deep, masked, banked, taking, logging, off, write, change, moved, toRegister, toMemory, toStack, toLog}
 use Rattle.state.specs.Operands.{View, cell, register, dataAddress, constant, operand, conditionMet, specialRegister}
 
 -- the ALU at width W, of words that are taken mod 2^W and N mod 2: registers of a record in its ranges are so already
@@ -128,7 +128,7 @@ module _ (v : View) (i : Instruction) where
   -- "IORMW gives %d the reading, logs it with MSbit set, and counts as a read and as a posted write."
   unfoldable pub portModifyPlan : Change
   portModifyPlan =
-      change (posting (logging (taking M)) 1 S) (write (cell v (i .destination)) reading) none none
+      change (posting (logging (taking M)) 1 S) (write (cell v (i .destination)) reading) off off
       (write (v .core .logged) S)
       (write (v .core .logged) (withTopBit (v .config) reading))
 
@@ -165,13 +165,13 @@ module _ (v : View) (i : Instruction) where
   abbrev pub returned : Core
   returned = deep (at M (getD (v .stack) newest 0)) newest
 
-  unfoldable pub returnPlan : Change
-  returnPlan = toStack returned newest 0
+  unfoldable pub retPlan : Change
+  retPlan = toStack returned newest 0
 
   -- "RLD loads the signed form."
-  unfoldable pub returnConstantPlan : Change
-  returnConstantPlan =
-      change returned (write (cell v (i .destination)) (constant (v .config) Signed (i .value))) none (write newest 0) none none
+  unfoldable pub retConstantPlan : Change
+  retConstantPlan =
+      change returned (write (cell v (i .destination)) (constant (v .config) Signed (i .value))) off (write newest 0) off off
 
   -- JSRWP: the context of the old bank into %00 of the new one
   unfoldable pub enterBankPlan : Change
@@ -220,8 +220,8 @@ module _ (v : View) (i : Instruction) where
   planOf (branch-register k) = branchRegisterPlan k
   planOf call = callPlan
   planOf call-register = callRegisterPlan
-  planOf return = returnPlan
-  planOf return-constant = returnConstantPlan
+  planOf ret = retPlan
+  planOf ret-constant = retConstantPlan
   planOf enter-bank = enterBankPlan
   planOf leave-bank = leaveBankPlan
   planOf enter-special = enterSpecialPlan

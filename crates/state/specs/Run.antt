@@ -6,7 +6,7 @@ use Rattle.laws.specs.Choice.{pick}
 use Rattle.laws.specs.First.{first-failing}
 use Rattle.state.specs.State.{Env, State}
 use Rattle.state.specs.Ranges.{guards, budgetFits}
-use Rattle.state.specs.Step.{Outcome, advanceOf}
+use Rattle.state.specs.Step.{advanceOf}
 
 -- What a run answers: number, steps and cycles done, the state it leaves; and the states that its steps were taken from, which with the last are all
 -- states on the way.

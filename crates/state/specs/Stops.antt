@@ -1,22 +1,17 @@
 -- The numbers that stop a step, 4 to 15, in the table's order: document 01, 'Numbers of refusal and stop'.
 use Prim.Native.Nat.{ℕ, _+_, _*_, _/_}
-use mathlib.Core.Bool.{Bool, _&&_, _||_}
+use mathlib.Core.Bool.{_&&_, _||_}
 use mathlib.Core.List.{List, [], _∷_, _++_}
 use lib.Dec.{eqb}
 use lib.ListN.{length, getD}
-use Rattle.laws.specs.Choice.{pick}
-use Rattle.laws.specs.Test.{Test, less, most, same, yes?, if?, _and_, member, test}
-use Rattle.words.specs.declared.Config.{Config}
+use Rattle.laws.specs.Test.{Test, less, most, same, yes?, if?, _and_, member}
 use Rattle.words.specs.declared.Instruction.{Instruction}
 use Rattle.words.specs.declared.Facts.{Facts}
 use Rattle.words.specs.Rows.{rowAt}
 use Rattle.words.specs.Words.{partsOf, refusals567}
 use Rattle.words.specs.Kinds.{Kind}
 use Rattle.words.specs.Facts.{factsFor}
-use Rattle.state.specs.declared.Core.{Core}
-use Rattle.state.specs.declared.Change.{Change}
 use Rattle.state.specs.State.{Env, State, stackLimit}
-use Rattle.state.specs.Cores.{stopped}
 use Rattle.state.specs.Operands.{View, viewOf, register, dataAddress}
 
 -- the special registers that MOV %d,%s reads in special-register mode
@@ -65,7 +60,7 @@ module _ (v : View) (i : Instruction) (f : Facts) where
 
 -- the instruction at PC, as far as it can be read, its kind, and what is asked of that
 abbrev pub partsAt : Env → State → Instruction
-partsAt e s = partsOf (getD (e .image) (s .core .pc) 0)
+partsAt e s = partsOf (e .config) (getD (e .image) (s .core .pc) 0)
 
 abbrev pub kindAt : Env → State → Kind
 kindAt e s = rowAt (partsAt e s .row) .kind

@@ -1,6 +1,6 @@
 // The step helpers: each takes the core by value and hands the new one back, or the change that it makes.
 ghost use mathlib.Core.Path.{_≡_};
-ghost use Rattle.state.specs.Cores.{at, posting, flagged, indexed, multiplied, deep, masked, banked, positioned, none, write, change, stopped, moved, toRegister, toMemory, toStack, toLog};
+ghost use Rattle.state.specs.Cores.{at, posting, flagged, indexed, multiplied, deep, masked, banked, positioned, off, write, change, stopped, moved, toRegister, toMemory, toStack, toLog};
 ghost use Rattle.state.specs.State.{resetMachine, stackLimit};
 use crate::Change;
 use crate::Core;
@@ -11,7 +11,7 @@ impl Machine {
     // How many addresses the return stack can hold in any configuration.
     pub const STACK_CELLS: usize = 63;
     // What the record's parts stay below, or are at most, in any configuration.
-    pub const PC_LIMIT: usize = 8388608;
+    pub const PC_LIMIT: usize = 0x800000;
 
     pub const MASK_MOST: u64 = 15;
     // The largest budget of a run.
@@ -149,11 +149,11 @@ impl Core {
         Change {
             stop: n,
             core: self,
-            reg: Write::none(),
-            dm: Write::none(),
-            stack: Write::none(),
-            logat: Write::none(),
-            logval: Write::none(),
+            reg: Write::off(),
+            dm: Write::off(),
+            stack: Write::off(),
+            logat: Write::off(),
+            logval: Write::off(),
         }
     }
 
@@ -175,48 +175,42 @@ impl Core {
     pub fn moved(self) -> Change
         ensures { λ r. ⌜ r ≡ moved self ⌝ }
     {
-        let none = Write::none();
-        self.change(none, none, none, none, none)
+        let off = Write::off();
+        self.change(off, off, off, off, off)
     }
 
     pub fn to_register(self, at: usize, value: u32) -> Change
         ensures { λ r. ⌜ r ≡ toRegister self at value ⌝ }
     {
-        let none = Write::none();
-        self.change(Write::to(at, value), none, none, none, none)
+        let off = Write::off();
+        self.change(Write::to(at, value), off, off, off, off)
     }
 
     pub fn to_memory(self, at: usize, value: u32) -> Change
         ensures { λ r. ⌜ r ≡ toMemory self at value ⌝ }
     {
-        let none = Write::none();
-        self.change(none, Write::to(at, value), none, none, none)
+        let off = Write::off();
+        self.change(off, Write::to(at, value), off, off, off)
     }
 
     pub fn to_stack(self, at: usize, value: u32) -> Change
         ensures { λ r. ⌜ r ≡ toStack self at value ⌝ }
     {
-        let none = Write::none();
-        self.change(none, none, Write::to(at, value), none, none)
+        let off = Write::off();
+        self.change(off, off, Write::to(at, value), off, off)
     }
 
     pub fn to_log(self, at: usize, address: u32, value: u32) -> Change
         ensures { λ r. ⌜ r ≡ toLog self at address value ⌝ }
     {
-        let none = Write::none();
-        self.change(
-            none,
-            none,
-            none,
-            Write::to(at, address),
-            Write::to(at, value),
-        )
+        let off = Write::off();
+        self.change(off, off, off, Write::to(at, address), Write::to(at, value))
     }
 }
 
 impl Write {
-    pub fn none() -> Write
-        ensures { λ r. ⌜ r ≡ none ⌝ }
+    pub fn off() -> Write
+        ensures { λ r. ⌜ r ≡ off ⌝ }
     {
         Write {
             on: false,

@@ -1,15 +1,15 @@
 -- A listing prints whole lines: all of them on a page that is large enough, the same in two parts as in one, and it touches no other byte.
 -- Assumes nothing.
-use Prim.Native.Nat.{ℕ, zero, suc, _+_, _-_, _<_, _≤_}
+use Prim.Native.Nat.{ℕ, zero, suc, _+_, _-_, _≤_}
 use mathlib.Core.Path.{_≡_, refl, sym, ap, _∙_}
 use mathlib.Core.Bool.{Bool, true, false}
-use mathlib.Core.List.{List, [], _∷_, _++_, append-assoc, append-nil}
+use mathlib.Core.List.{List, [], _∷_, _++_, append-assoc}
 use native.Mathlib.Nat.{add-zero, zero-add, add-suc, suc-add}
 use native.Mathlib.Omega.{arith}
 use borrow.Author.Tests.{le-leb, leb-true, eqb-true, eqb-false, ne-eqb}
 use lib.Dec.{eqb, leb}
 use lib.ListN.{length, take, drop, length-append}
-use lib.Seq.{sets, sets-eq, slice, slice-empty, length-take-le, take-append-le, take-at, drop-at}
+use lib.Seq.{sets-eq, slice, slice-empty, length-take-le, take-append-le, take-at, drop-at}
 use Rattle.laws.specs.Choice.{pick}
 use Rattle.laws.specs.First.{numbered, none-fails, obeyed}
 use Rattle.laws.specs.Test.{Holds, same, most}
@@ -20,7 +20,7 @@ use Rattle.text.specs.Pages.{written}
 use Rattle.text.specs.Lines.{lineAt, linesFrom, Listing, listing, listed, listNumber, listOf}
 use Rattle.text.specs.Answers.{listedOf}
 use Rattle.text.specs.Claims.{linesToEnd, printedFrom, ListsWhole, ListsInParts, ListsKeep, Lists}
-use Rattle.text.proofs.Writing.{sets-append, length-written}
+use Rattle.text.proofs.writers.Laws.{sets-append, length-written}
 
 -- what is written, part by part
 

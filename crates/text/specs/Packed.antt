@@ -1,7 +1,7 @@
--- The tables that code holds, and a text as code writes it: four pieces, each bytes of a table and then digits. proofs/Pieces.antt ties them to Texts.
+-- The tables that code holds, and a text as code writes it: four pieces, each bytes of a table and then digits. proofs/forms/Laws.antt ties them to Texts.
 use Prim.Native.Nat.{ℕ, _+_, _*_, _/_, _%_, _<_}
 use mathlib.Core.Path.{_≡_}
-use mathlib.Core.Bool.{Bool, not, _&&_}
+use mathlib.Core.Bool.{not, _&&_}
 use mathlib.Core.List.{List, [], _∷_, _++_}
 use lib.Dec.{eqb}
 use lib.ListN.{length, getD}
@@ -11,7 +11,7 @@ use Rattle.laws.specs.Table.{values}
 use Rattle.words.specs.declared.Instruction.{Instruction}
 use Rattle.words.specs.Parts.{flag, is}
 use Rattle.words.specs.Rows.{Row, rowCount, rowAt}
-use Rattle.text.specs.Strings.{none, updates, strings}
+use Rattle.text.specs.Strings.{empty, updates, strings}
 use Rattle.text.specs.Styles.{Style, styleAt}
 use Rattle.text.specs.Digits.{hex, unpacked}
 use Rattle.text.specs.Texts.{shown, numberWidth, endMark}
@@ -78,7 +78,7 @@ pieceLent strings sizes k w v = record { bytes = getD strings k 0; size = getD s
 
 -- what stands last, where bit 26 is `bit`
 unfoldable pub lastMark : ℕ → ℕ → ℕ → ℕ
-lastMark flagged mark bit = pick (eqb flagged 1 && not (eqb bit 0)) none mark
+lastMark flagged mark bit = pick (eqb flagged 1 && not (eqb bit 0)) empty mark
 
 -- the pieces of an instruction's text by lent tables, whatever they hold; p is its row's packed style
 unfoldable pub formIn : List ℕ → List ℕ → ℕ → Instruction → Form

@@ -6,8 +6,8 @@ use Rattle.text.specs.Letters.{space, hash, percent, ampersand, plus, co
 
 -- the strings by number; names first
 
-abbrev pub none : ℕ  -- ""
-none = 0
+abbrev pub empty : ℕ  -- ""
+empty = 0
 
 abbrev pub TST : ℕ
 TST = 1
@@ -213,7 +213,7 @@ if-NB1 = 67
 abbrev pub if-BIO : ℕ  -- ",BIO"
 if-BIO = 68
 
--- names; none first
+-- names; the empty one first
 abbrev pub names : List (List ℕ)
 names =
     [] ∷

@@ -2,13 +2,13 @@
 use Prim.Native.Nat.{ℕ}
 use mathlib.Core.List.{List, [], _∷_}
 use lib.ListN.{getD}
-use Rattle.text.specs.Strings.{none, TST, AND, OR, XOR, CMP, CMPS, SUB, SUBS, ADD, ADDC, SUBC, MUL, SHR, SHRA, SHL, ROTR, ROTL, SHL16, ABS, CLZ, BST, BLD, BLDS, LDYX, MOVX, MOV, MOVIO, IORMW, JMP, COP, JSR, RLD, JSRWP, IRQ-ON, IRQ-OFF, RET, RETWP, RETI, SPR-OFF, SPR-ON, IRQM-RLD, IRQM-SS}
+use Rattle.text.specs.Strings.{empty, TST, AND, OR, XOR, CMP, CMPS, SUB, SUBS, ADD, ADDC, SUBC, MUL, SHR, SHRA, SHL, ROTR, ROTL, SHL16, ABS, CLZ, BST, BLD, BLDS, LDYX, MOVX, MOV, MOVIO, IORMW, JMP, COP, JSR, RLD, JSRWP, IRQ-ON, IRQ-OFF, RET, RETWP, RETI, SPR-OFF, SPR-ON, IRQM-RLD, IRQM-SS}
 use Rattle.text.specs.Strings.{first-register, first-indirect, first-indexed, first-direct, first-digits, then-register, then-indirect, then-indexed, then-direct, then-digits, then-signed, then-unsigned, then-shifted}
 
 -- what the digits of an operand show
 
-abbrev pub nothing : ℕ
-nothing = 0
+abbrev pub no-part : ℕ
+no-part = 0
 
 abbrev pub destination : ℕ
 destination = 1
@@ -41,7 +41,7 @@ shape first second = record { first = first; second = second }
 -- "registers % and two hex digits, immediates a mark and four, data addresses & and four, targets six, JSRWP address four and offset three"
 
 abbrev pub bare : Shape  -- no operand
-bare = shape (operand none 0 nothing) (operand none 0 nothing)
+bare = shape (operand empty 0 no-part) (operand empty 0 no-part)
 
 abbrev pub registers : Shape  -- %d,%s
 registers = shape (operand first-register 2 destination) (operand then-register 2 source)
@@ -59,10 +59,10 @@ abbrev pub short : Shape  -- %d,#short immediate
 short = shape (operand first-register 2 destination) (operand then-signed 2 value)
 
 abbrev pub store-indexed : Shape  -- @%d,@%X+
-store-indexed = shape (operand first-indirect 2 destination) (operand then-indexed 0 nothing)
+store-indexed = shape (operand first-indirect 2 destination) (operand then-indexed 0 no-part)
 
 abbrev pub load-indexed : Shape  -- @%X+,@%s
-load-indexed = shape (operand first-indexed 0 nothing) (operand then-indirect 2 source)
+load-indexed = shape (operand first-indexed 0 no-part) (operand then-indirect 2 source)
 
 abbrev pub load-indirect : Shape  -- %d,@%s
 load-indirect = shape (operand first-register 2 destination) (operand then-indirect 2 source)
@@ -86,16 +86,16 @@ abbrev pub port-shifted : Shape  -- @%d,<immediate
 port-shifted = shape (operand first-indirect 2 destination) (operand then-shifted 4 value)
 
 abbrev pub target : Shape  -- target
-target = shape (operand first-digits 6 value) (operand none 0 nothing)
+target = shape (operand first-digits 6 value) (operand empty 0 no-part)
 
 abbrev pub indirect : Shape  -- @%d
-indirect = shape (operand first-indirect 2 destination) (operand none 0 nothing)
+indirect = shape (operand first-indirect 2 destination) (operand empty 0 no-part)
 
 abbrev pub bank : Shape  -- address,offset
 bank = shape (operand first-digits 4 value) (operand then-digits 3 offset)
 
 abbrev pub mask : Shape  -- mask
-mask = shape (operand first-digits 1 destination) (operand none 0 nothing)
+mask = shape (operand first-digits 1 destination) (operand empty 0 no-part)
 
 pub record Style : Type 0 where
   pub name : ℕ
@@ -241,4 +241,4 @@ styles =
     []
 
 unfoldable pub styleAt : ℕ → Style
-styleAt n = getD styles n (style none bare)
+styleAt n = getD styles n (style empty bare)

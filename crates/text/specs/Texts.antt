@@ -1,7 +1,6 @@
 -- The text of an instruction, and of a word: document 01, 'Listing and image file'.
 use Prim.Native.Nat.{ℕ, _+_, _*_, _/_, _%_}
-use mathlib.Core.Path.{_≡_}
-use mathlib.Core.Bool.{Bool, _&&_}
+use mathlib.Core.Bool.{_&&_}
 use mathlib.Core.List.{List, [], _∷_, _++_}
 use lib.Dec.{eqb, ltb}
 use lib.ListN.{length, getD}
@@ -12,11 +11,11 @@ use Rattle.words.specs.declared.Config.{Config}
 use Rattle.words.specs.declared.Instruction.{Instruction}
 use Rattle.words.specs.Parts.{Part, flag, byte, is}
 use Rattle.words.specs.Kinds.{Condition, Z, NZ, GT, LT, GE, LE, NIRQ, B0, B1, NB0, NB1, BIO}
-use Rattle.words.specs.Kinds.{Kind, unsupported, compute, compare, multiply, bytewise, load-index, index-store, index-load, move, load-constant, load-register, load-direct, store-register, store-direct, port-read, port-modify, port-write, jump, branch, jump-register, branch-register, call, call-register, return, return-constant, enter-bank, leave-bank, enter-special, leave-special}
+use Rattle.words.specs.Kinds.{Kind, unsupported, compute, compare, multiply, bytewise, load-index, index-store, index-load, move, load-constant, load-register, load-direct, store-register, store-direct, port-read, port-modify, port-write, jump, branch, jump-register, branch-register, call, call-register, ret, ret-constant, enter-bank, leave-bank, enter-special, leave-special}
 use Rattle.words.specs.Rows.{rowAt}
-use Rattle.words.specs.Words.{Read, readLawful, readOf}
+use Rattle.words.specs.Words.{readLawful, readOf}
 use Rattle.text.specs.Letters.{ask}
-use Rattle.text.specs.Strings.{none, updates, if-Z, if-NZ, if-GT, if-LT, if-GE, if-LE, if-NIRQ, if-B0, if-B1, if-NB0, if-NB1, if-BIO, string}
+use Rattle.text.specs.Strings.{empty, updates, if-Z, if-NZ, if-GT, if-LT, if-GE, if-LE, if-NIRQ, if-B0, if-B1, if-NB0, if-NB1, if-BIO, string}
 use Rattle.text.specs.Styles.{Operand, styleAt}
 use Rattle.text.specs.Digits.{hex}
 use Rattle.text.specs.Pages.{written}
@@ -49,39 +48,39 @@ conditionMark BIO = if-BIO
 
 -- what is printed after the operands: the condition, where there is one
 unfoldable pub endMark : Kind → ℕ
-endMark unsupported = none
-endMark (compute o x) = none
-endMark (compare o x) = none
-endMark (multiply x) = none
-endMark (bytewise o) = none
-endMark load-index = none
-endMark index-store = none
-endMark index-load = none
-endMark move = none
-endMark (load-constant g) = none
-endMark load-register = none
-endMark load-direct = none
-endMark store-register = none
-endMark store-direct = none
-endMark port-read = none
-endMark port-modify = none
-endMark (port-write x) = none
-endMark jump = none
+endMark unsupported = empty
+endMark (compute o x) = empty
+endMark (compare o x) = empty
+endMark (multiply x) = empty
+endMark (bytewise o) = empty
+endMark load-index = empty
+endMark index-store = empty
+endMark index-load = empty
+endMark move = empty
+endMark (load-constant g) = empty
+endMark load-register = empty
+endMark load-direct = empty
+endMark store-register = empty
+endMark store-direct = empty
+endMark port-read = empty
+endMark port-modify = empty
+endMark (port-write x) = empty
+endMark jump = empty
 endMark (branch b) = conditionMark b
-endMark jump-register = none
+endMark jump-register = empty
 endMark (branch-register b) = conditionMark b
-endMark call = none
-endMark call-register = none
-endMark return = none
-endMark return-constant = none
-endMark enter-bank = none
-endMark leave-bank = none
-endMark enter-special = none
-endMark leave-special = none
+endMark call = empty
+endMark call-register = empty
+endMark ret = empty
+endMark ret-constant = empty
+endMark enter-bank = empty
+endMark leave-bank = empty
+endMark enter-special = empty
+endMark leave-special = empty
 
 -- '",S" when bit 26 of an ALU word is 0': p is what the flag part holds
 unfoldable pub flagMark : Part → ℕ → ℕ
-flagMark p bit = pick (is p flag && eqb bit 0) updates none
+flagMark p bit = pick (is p flag && eqb bit 0) updates empty
 
 -- The text of an instruction: name, byte number, operands, condition, flags. One style of operands so far, whatever the configuration c.
 unfoldable pub textOf : Config → Instruction → List ℕ

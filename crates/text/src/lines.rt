@@ -131,7 +131,7 @@ pub fn word_form(
     if number != 0 {
         return refused_form(number);
     }
-    let i = words::parts_lent(bases, packs, n, w);
+    let i = words::parts_lent(bases, packs, c, n, w);
     shown_form(c, strings, sizes, styles, i)
 }
 

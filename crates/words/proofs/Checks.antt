@@ -9,6 +9,7 @@ use Rattle.laws.specs.Choice.{pick, pick-no, decided-yes}
 use Rattle.laws.specs.Lists.{column, column-at}
 use Rattle.laws.specs.Test.{Test, less, same, yes?, if?, _and_, _or_, test, Holds, holds, imp}
 use Rattle.laws.specs.Table.{every, at-every}
+use Rattle.words.specs.declared.Config.{Config}
 use Rattle.words.specs.Parts.{Part, Part-discrete, unused, flag, byte, register, target, is}
 use Rattle.words.specs.Parts.{Option, Option-discrete, never, needs}
 use Rattle.words.specs.Kinds.{Kind, unsupported, marksOf}
@@ -98,25 +99,25 @@ sides-like upper-value r k =
 sides-like whole r k =
     yes? (is (r .destination) unused) and yes? (is (r .source) unused) and yes? (is (r .value) target)
 
-abbrev pub check-like : Row → Check → Test
-check-like r k =
+abbrev pub check-like : Config → Row → Check → Test
+check-like c r k =
     same (k .code) (code r) and
     (yes? (is (r .flag) unused) or yes? (is (r .flag) flag)) and
-    (yes? (is (r .number) unused) or yes? (is (r .number) byte) and same (k .bytes) 1) and
-    sides-like (layoutOf (r .value)) r k
+    (yes? (is (r .number) unused) or yes? (is (r .number) byte) and same (k .numbered) 1) and
+    sides-like (layoutOf c (r .value)) r k
 
-abbrev pub check-right : ℕ → Test
-check-right n =
+abbrev pub check-right : Config → ℕ → Test
+check-right c n =
     let r = rowAt n in
     let k = checkAt (entryAt n % 64) in
-    yes? (needs (k .option) (r .option)) and if? (not (needs (r .option) never)) (check-like r k)
+    yes? (needs (k .option) (r .option)) and if? (not (needs (r .option) never)) (check-like c r k)
 
-all-checks : T (every rowCount (λ n. test (check-right n)))
+all-checks : (c : Config) → T (every rowCount (λ n. test (check-right c n)))
 unfolding pick rows rowAt layoutOf entries entryAt checks checkAt
-all-checks = tt
+all-checks c = tt
 
-pub check-at : (n : ℕ) → n < rowCount → Holds (check-right n)
-check-at n h = holds (check-right n) (at-every rowCount (λ m. test (check-right m)) n all-checks h)
+pub check-at : (c : Config) (n : ℕ) → n < rowCount → Holds (check-right c n)
+check-at c n h = holds (check-right c n) (at-every rowCount (λ m. test (check-right c m)) n (all-checks c) h)
 
 -- Parts
 
@@ -169,9 +170,9 @@ whole-at whole f t = refl
 abbrev pub used : ℕ → ℕ → Bool
 used m u = eqb (u / m % 2) 1
 
-abbrev pub uses-like : Row → ℕ → Test
-uses-like r u =
-    let y = layoutOf (r .value) in
+abbrev pub uses-like : Config → Row → ℕ → Test
+uses-like c r u =
+    let y = layoutOf c (r .value) in
     if? (used flag′ u) (yes? (is (r .flag) flag)) and
     if? (used destination′ u) (yes? (is (r .destination) register) and yes? (has-upper y) and less (code r) 65536) and
     if? (used source′ u) (yes? (is (r .source) register) and yes? (has-lower y) and same (code r % 256) 0) and
@@ -180,15 +181,15 @@ uses-like r u =
     if? (used target′ u) (yes? (is-whole y) and same (code r) 0) and
     if? (used unit′ u) (yes? (has-upper y) and less (code r) 65536)
 
-abbrev uses-right : ℕ → Test
-uses-right n =
-    if? (not (needs (rowAt n .option) never)) (uses-like (rowAt n) (actionAt (entryAt n / 0x4000000) .uses))
+abbrev uses-right : Config → ℕ → Test
+uses-right c n =
+    if? (not (needs (rowAt n .option) never)) (uses-like c (rowAt n) (actionAt (entryAt n / 0x4000000) .uses))
 
-all-uses : T (every rowCount (λ n. test (uses-right n)))
+all-uses : (c : Config) → T (every rowCount (λ n. test (uses-right c n)))
 unfolding pick rows rowAt layoutOf entries entryAt actions actionAt
-all-uses = tt
+all-uses c = tt
 
-pub uses-at : (n : ℕ) → n < rowCount → (rowAt n .option ≡ never → ⊥) → Holds (uses-like (rowAt n) (actionAt (entryAt n / 0x4000000) .uses))
-uses-at n h o =
-    holds (uses-right n) (at-every rowCount (λ m. test (uses-right m)) n all-uses h)
+pub uses-at : (c : Config) (n : ℕ) → n < rowCount → (rowAt n .option ≡ never → ⊥) → Holds (uses-like c (rowAt n) (actionAt (entryAt n / 0x4000000) .uses))
+uses-at c n h o =
+    holds (uses-right c n) (at-every rowCount (λ m. test (uses-right c m)) n (all-uses c) h)
     (isnt-it (rowAt n .option) never o)

@@ -8,7 +8,7 @@ use native.Mathlib.Omega.{arith}
 use lib.Dec.{T, leb, ltb, eqb, le→leb, ltb→lt, eqb→eq}
 use Rattle.laws.specs.Choice.{pick, pick-no}
 use Rattle.laws.specs.Test.{imp, imp-use, and-left, and-right}
-use Rattle.laws.specs.Table.{every, at-every}
+use Rattle.laws.specs.Table.{at-every}
 use Rattle.words.specs.Numbers.{MOVIO-read}
 use Rattle.words.specs.Classes.{none, lookup, byteRows, indexRows, portRows, miscRows}
 use Rattle.words.specs.Packed.{digitRow}

@@ -2,15 +2,16 @@
 -- Assumes nothing.
 use Prim.Native.Nat.{ℕ, _+_, _-_, _*_, _/_, _%_, _≤_, _<_}
 use mathlib.Core.Path.{_≡_, refl}
-use mathlib.Core.Bool.{Bool, true, false}
+use mathlib.Core.Bool.{Bool, true}
 use native.Mathlib.Omega.{arith}
 use lib.Dec.{T, ltb, lt→ltb}
 use Rattle.laws.specs.Choice.{pick}
 use Rattle.laws.specs.Test.{Test, less, most, same, yes?, if?, _and_, test, Holds, holds}
 use Rattle.laws.specs.Table.{every, at-every}
-use Rattle.words.specs.Parts.{Part, unused, flag, byte, coprocessor, register, unit, mask, immediate, read-address, write-address, target, count, entry, short}
+use Rattle.words.specs.declared.Config.{Config}
+use Rattle.words.specs.Parts.{Part, unused, flag, byte, coprocessor, register, unit, mask, immediate, read-address, write-address, target, count, bank-address, short}
 use Rattle.words.specs.Rows.{Row, rows, rowCount, rowAt}
-use Rattle.words.specs.Classes.{classOf, Field, nothing, bits15-8, bit15, bit22, bits22-16, fieldOf, codeAt, choices, rowIn, rowOf}
+use Rattle.words.specs.Classes.{classOf, Field, no-field, bits15-8, bit15, bit22, bits22-16, fieldOf, codeAt, choices, rowIn, rowOf}
 use Rattle.words.specs.Words.{flagIn, Layout, registers, upper-value, whole, layoutOf, upperIn, lowerIn, valueIn}
 
 -- bits 31-23 and 22-0 of a row's base
@@ -22,14 +23,14 @@ code r = r .base % 0x800000
 
 -- the weight of a field's lowest bit, and how many values the field has
 abbrev lowest : Field → ℕ
-lowest nothing = 0
+lowest no-field = 0
 lowest bits15-8 = 256
 lowest bit15 = 32768
 lowest bit22 = 0x400000
 lowest bits22-16 = 65536
 
 abbrev codes : Field → ℕ
-codes nothing = 1
+codes no-field = 1
 codes bits15-8 = 256
 codes bit15 = 2
 codes bit22 = 2
@@ -49,7 +50,7 @@ most-of read-address = 65536
 most-of write-address = 65536
 most-of target = 0x800000
 most-of count = 16
-most-of entry = 65536
+most-of bank-address = 65536
 most-of short = 256
 
 -- key k with code c is the key of its row with bit 26 and number as read, the number in its range, and the code is the row's
@@ -70,7 +71,7 @@ all-keys = tt
 
 code-few : (s : Field) (f : ℕ) → f < 0x800000 → codeAt s f < codes s
 unfolding codeAt
-code-few nothing f h = omega arith
+code-few no-field f h = omega arith
 code-few bits15-8 f h = omega arith
 code-few bit15 f h = omega arith
 code-few bit22 f h = omega arith
@@ -78,7 +79,7 @@ code-few bits22-16 f h = omega arith
 
 code-under : (s : Field) (f : ℕ) → codeAt s f * lowest s ≤ f
 unfolding codeAt
-code-under nothing f = omega arith
+code-under no-field f = omega arith
 code-under bits15-8 f = omega arith
 code-under bit15 f = omega arith
 code-under bit22 f = omega arith
@@ -87,7 +88,7 @@ code-under bits22-16 f = omega arith
 -- in the low 16 bits too
 code-under-low : (s : Field) (f : ℕ) → codeAt s f * lowest s % 65536 ≤ f % 65536
 unfolding codeAt
-code-under-low nothing f = omega arith
+code-under-low no-field f = omega arith
 code-under-low bits15-8 f = omega arith
 code-under-low bit15 f = omega arith
 code-under-low bit22 f = omega arith
@@ -125,7 +126,7 @@ layout-sum whole f = omega arith
 
 -- parts below Um, Lm and Vm leave the field that chooses the row, at e, as it is
 abbrev field-test : Field → ℕ → ℕ → ℕ → ℕ → Test
-field-test nothing e Um Lm Vm = yes? true
+field-test no-field e Um Lm Vm = yes? true
 field-test bits15-8 e Um Lm Vm = less e 65536 and same (e % 256) 0 and most Lm 256 and most Vm 1
 field-test bit15 e Um Lm Vm = less e 65536 and same (e % 32768) 0 and most Lm 32768 and most Vm 1
 field-test bit22 e Um Lm Vm = same (e % 0x400000) 0 and most Um 64 and most Lm 65536 and most Vm 1
@@ -140,7 +141,7 @@ layout-test whole Um Lm Vm = most Um 1 and most Lm 1
 module _ (Um Lm Vm u l v : ℕ) (hu : u < Um) (hl : l < Lm) (hv : v < Vm) where
   pub field-back : (s : Field) (e : ℕ) → Holds (field-test s e Um Lm Vm) → codeAt s (e + (65536 * u + l + v)) ≡ codeAt s e
   unfolding codeAt
-  field-back nothing e t = refl
+  field-back no-field e t = refl
   field-back bits15-8 e t = omega arith
   field-back bit15 e t = omega arith
   field-back bit22 e t = omega arith
@@ -154,8 +155,8 @@ module _ (Um Lm Vm u l v : ℕ) (hu : u < Um) (hl : l < Lm) (hv : v < Vm) where
   layout-back whole t = omega arith
 
 -- row n with bit 26 at a and number m is found again
-abbrev pub row-test : ℕ → Row → ℕ → ℕ → Test
-row-test n r a m =
+abbrev pub row-test : Config → ℕ → Row → ℕ → ℕ → Test
+row-test c n r a m =
     let k = key r + 8 * a + m in
     let s = fieldOf (classOf k) in
     let Um = most-of (r .destination) in
@@ -165,18 +166,18 @@ row-test n r a m =
     same (flagIn (r .flag) k) a and
     same (rowIn (classOf k) (codeAt s (code r))) n and
     field-test s (code r) Um Lm Vm and
-    layout-test (layoutOf (r .value)) Um Lm Vm and
+    layout-test (layoutOf c (r .value)) Um Lm Vm and
     less (code r + 65536 * Um + Lm + Vm) (0x800000 + 65538)
 
-abbrev row-tests : ℕ → Bool
-row-tests n =
-    every (most-of (rowAt n .flag)) (λ a. every (most-of (rowAt n .number)) (λ m. test (row-test n (rowAt n) a m)))
+abbrev row-tests : Config → ℕ → Bool
+row-tests c n =
+    every (most-of (rowAt n .flag)) (λ a. every (most-of (rowAt n .number)) (λ m. test (row-test c n (rowAt n) a m)))
 
-all-rows : T (every rowCount row-tests)
+all-rows : (c : Config) → T (every rowCount (row-tests c))
 unfolding pick rows rowAt classOf fieldOf codeAt choices rowIn flagIn layoutOf most-of
-all-rows = tt
+all-rows c = tt
 
-pub row-found : (n a m : ℕ) → n < rowCount → a < most-of (rowAt n .flag) → m < most-of (rowAt n .number) → Holds (row-test n (rowAt n) a m)
-row-found n a m hn ha hm =
-    holds (row-test n (rowAt n) a m)
-    (at-every (most-of (rowAt n .number)) _ m (at-every (most-of (rowAt n .flag)) _ a (at-every rowCount row-tests n all-rows hn) ha) hm)
+pub row-found : (c : Config) (n a m : ℕ) → n < rowCount → a < most-of (rowAt n .flag) → m < most-of (rowAt n .number) → Holds (row-test c n (rowAt n) a m)
+row-found c n a m hn ha hm =
+    holds (row-test c n (rowAt n) a m)
+    (at-every (most-of (rowAt n .number)) _ m (at-every (most-of (rowAt n .flag)) _ a (at-every rowCount (row-tests c) n (all-rows c) hn) ha) hm)

@@ -16,16 +16,16 @@ use Rattle.laws.specs.Test.{_and_, test, Holds, holds, Member, imp, imp-use, eq
 use Rattle.laws.specs.First.{first-failing, Obeyed, none-fails, numbered, obeyed}
 use Rattle.words.specs.declared.Config.{Config}
 use Rattle.words.specs.declared.Instruction.{Instruction}
-use Rattle.words.specs.Parts.{Part, unused, flag, byte, coprocessor, register, unit, mask, immediate, read-address, write-address, target, count, entry, short, is, inRange}
+use Rattle.words.specs.Parts.{Part, unused, flag, byte, coprocessor, register, unit, mask, immediate, read-address, write-address, target, count, bank-address, short, is, inRange}
 use Rattle.words.specs.Parts.{Option, never, available}
-use Rattle.words.specs.Codes.{limitOf}
 use Rattle.words.specs.Rows.{Row, rowCount, rowAt}
 use Rattle.words.specs.Words.{flagIn, Layout, registers, upper-value, whole, layoutOf, upperIn, lowerIn, valueIn, fieldsIn, spread, fits, refusals567, answered, partsBy, partsOf, readBy, readLawful}
-use Rattle.words.specs.Classes.{index, bytes, port, masks, misc, classOf, fieldOf, codeAt, choices, lookup, rowIn, rowOf}
+use Rattle.words.specs.Classes.{index, upper-bytes, port, irq-switch, misc, classOf, fieldOf, codeAt, choices, lookup, rowIn, rowOf}
 use Rattle.words.specs.Configs.{registerSizes, lawful}
 use Rattle.words.specs.Facts.{factsOf}
 use Rattle.words.specs.Claims.{understood}
 use Rattle.words.specs.Actions.{part, input, load, Check, checks, entries}
+use Rattle.words.specs.Packed.{limitOf}
 use Rattle.words.specs.Lookup.{entryAt, entryOf, checkAt, limitIn, upperLimit, lowerLimit, waitOf, Quick, Agrees}
 use Rattle.words.proofs.Keys.{code, most-of, row-facts}
 use Rattle.words.proofs.RoundTrip.{decoded}
@@ -51,16 +51,16 @@ waited c n h o =
 
 -- what it means that i is read
 record Read-as (c : Config) (w : ℕ) (i : Instruction) : Type 0 where
-  parts : i ≡ partsOf w
-  row : partsOf w .row < rowCount
-  option : Holds (available c (rowAt (partsOf w .row) .option))
-  fit : Holds (fits c (rowAt (partsOf w .row)) (partsOf w))
+  parts : i ≡ partsOf c w
+  row : partsOf c w .row < rowCount
+  option : Holds (available c (rowAt (partsOf c w .row) .option))
+  fit : Holds (fits c (rowAt (partsOf c w .row)) (partsOf c w))
 
 read-as : (c : Config) (w : ℕ) (i : Instruction) → readLawful c w ≡ understood i → Read-as c w i
 unfolding readLawful readBy partsOf refusals567
 read-as c w i e =
-    let tests = refusals567 c (rowAt (partsOf w .row)) (partsOf w) in
-    let p = decoded (first-failing tests) (partsOf w) i e in
+    let tests = refusals567 c (rowAt (partsOf c w .row)) (partsOf c w) in
+    let p = decoded (first-failing tests) (partsOf c w) i e in
     let q = obeyed tests (numbered tests tt) (p .0) in
     record { parts = sym (p .1); row = q .0; option = q .1 .0; fit = q .1 .1 .0 }
 
@@ -69,7 +69,7 @@ unfolding available
 unnamed c o h e = rw e at h
 
 pub read-row : (c : Config) (w : ℕ) (i : Instruction) → readLawful c w ≡ understood i →
-    (i .row < rowCount) × (rowAt (i .row) .option ≡ never → ⊥) × (i ≡ partsOf w) × (entryAt (i .row) ≡ entryOf w)
+    (i .row < rowCount) × (rowAt (i .row) .option ≡ never → ⊥) × (i ≡ partsOf c w) × (entryAt (i .row) ≡ entryOf w)
 unfolding partsOf partsBy spread fieldsIn entryOf
 read-row c w i e = let p = read-as c w i e in rw (p .parts) (p .row, unnamed c _ (p .option), refl, refl)
 
@@ -111,7 +111,7 @@ limit-under c all read-address m h = h
 limit-under c all write-address m h = h
 limit-under c all target m h = h
 limit-under c all count m h = let q = above-pick (eqb (c .alulevel) 0) m 16 h in (q .1, λ t. absurd (q .0 t))
-limit-under c all entry m h = h
+limit-under c all bank-address m h = h
 limit-under c all short m h = h
 
 unused-fits : (c : Config) (p : Part) → p ≡ unused → Holds (inRange c p 0)
@@ -183,7 +183,7 @@ flag-either p (inl t) = inl (is-it p unused t)
 flag-either p (inr t) = inr (is-it p flag t)
 
 -- what passes the check obeys 5, 6 and 7
-obeys : (c : Config) (w : ℕ) → w < 0x100000000 → Quick c w → Obeyed (refusals567 c (rowAt (partsOf w .row)) (partsOf w))
+obeys : (c : Config) (w : ℕ) → w < 0x100000000 → Quick c w → Obeyed (refusals567 c (rowAt (partsOf c w .row)) (partsOf c w))
 unfolding partsOf partsBy spread fieldsIn refusals567 fits entryOf upperLimit lowerLimit
 obeys c w hw q =
     let k = w / 0x800000 in
@@ -192,16 +192,16 @@ obeys c w hw q =
     let r = rowAt n in
     let x = checkAt (entryAt n % 64) in
     let there = test (available c (x .option)) in
-    let wide = imp (eqb (x .bytes) 1) (eqb (c .regwidth) 32) in
+    let wide = imp (eqb (x .numbered) 1) (eqb (c .regwidth) 32) in
     let u = under-pick (there && wide) (w / 65536 % 128) (x .code / 65536 + limitIn c 128 (x .upper)) (q .upper) in
     let row = found c n (and-left there wide (u .0)) in
-    let right = check-at n row in
+    let right = check-at c n row in
     let option = holds (available c (r .option)) (rw (needs-it (x .option) (r .option) (right .0)) at (and-left there wide (u .0))) in
     let like = right .1 (isnt-it (r .option) never (unnamed c (r .option) option)) in
     let facts = row-facts k f (omega arith) (omega arith) row in
     let sides =
     sides-fit c r x f (like .0) (facts .code-most) (facts .code-low) (omega arith) (omega (arith, u .1)) (omega (arith, q .lower))
-    (layoutOf (r .value)) (like .1 .1 .1) in (
+    (layoutOf c (r .value)) (like .1 .1 .1) in (
       row,
       (
         option,
@@ -210,7 +210,7 @@ obeys c w hw q =
             flag-fits c (r .flag) k (flag-either (r .flag) (like .1 .0)),
             (
               number-fits c (r .number) _ (facts .number-less)
-                  (wide-number (r .number) (x .bytes) (c .regwidth) (and-right there wide (u .0)) (like .1 .1 .0)),
+                  (wide-number (r .number) (x .numbered) (c .regwidth) (and-right there wide (u .0)) (like .1 .1 .0)),
               sides,
             ),
           ),
@@ -219,9 +219,9 @@ obeys c w hw q =
       ),
     )
 
-pub quick : (c : Config) (w : ℕ) → Holds (lawful c) → w < 0x100000000 → Quick c w → readLawful c w ≡ understood (partsOf w)
+pub quick : (c : Config) (w : ℕ) → Holds (lawful c) → w < 0x100000000 → Quick c w → readLawful c w ≡ understood (partsOf c w)
 unfolding readLawful readBy partsOf answered pick
-quick c w hc hw q = rw (none-fails (refusals567 c (rowAt (partsOf w .row)) (partsOf w)) (obeys c w hw q))
+quick c w hc hw q = rw (none-fails (refusals567 c (rowAt (partsOf c w .row)) (partsOf c w)) (obeys c w hw q))
 
 -- The parts that an action reads
 
@@ -252,19 +252,19 @@ most-byte : (p : Part) → p ≡ byte → most-of p ≡ 4
 unfolding most-of
 most-byte p e = rw e
 
-parts-agree : (c : Config) (w : ℕ) → Holds (lawful c) → w < 0x100000000 → partsOf w .row < rowCount →
-    Holds (available c (rowAt (partsOf w .row) .option)) → Holds (fits c (rowAt (partsOf w .row)) (partsOf w)) →
-    Agrees (c .regsize) (entryOf w / 0x4000000) w (partsOf w)
+parts-agree : (c : Config) (w : ℕ) → Holds (lawful c) → w < 0x100000000 → partsOf c w .row < rowCount →
+    Holds (available c (rowAt (partsOf c w .row) .option)) → Holds (fits c (rowAt (partsOf c w .row)) (partsOf c w)) →
+    Agrees (c .regsize) (entryOf w / 0x4000000) w (partsOf c w)
 unfolding partsOf partsBy spread fieldsIn fits entryOf lawful
 parts-agree c w hc hw row option fit =
     let k = w / 0x800000 in
     let f = w % 0x800000 in
     let n = rowOf (classOf k) f in
     let r = rowAt n in
-    let y = layoutOf (r .value) in
+    let y = layoutOf c (r .value) in
     let size = hc .1 .0 .1 in
     let facts = row-facts k f (omega arith) (omega arith) row in
-    let u = uses-at n row (unnamed c (r .option) option) in
+    let u = uses-at c n row (unnamed c (r .option) option) in
     record {
       flag = λ t. flag-at (r .flag) k (is-it _ _ (u .0 t)) ∙ omega arith;
       destination = λ t.
@@ -318,9 +318,9 @@ choices-few : (c : ℕ) → T (rows-below (choices c))
 unfolding choices
 choices-few c =
     either Few (eqb c index) _ _ (λ _. tt)
-    (λ _. either Few (eqb c bytes) _ _ (λ _. tt)
+    (λ _. either Few (eqb c upper-bytes) _ _ (λ _. tt)
     (λ _. either Few (eqb c port) _ _ (λ _. tt)
-    (λ _. either Few (eqb c masks) _ _ (λ _. tt)
+    (λ _. either Few (eqb c irq-switch) _ _ (λ _. tt)
     (λ _. either Few (eqb c misc) _ _ (λ _. tt) (λ _. tt)))))
 
 pub row-few : (k f : ℕ) → k < 512 → rowOf (classOf k) f < 256

@@ -2,7 +2,7 @@
 -- parts that they give.
 -- Assumes nothing.
 use Prim.Native.Nat.{ℕ, _/_, _%_, _<_}
-use mathlib.Core.Path.{_≡_, refl, sym, ap, _∙_}
+use mathlib.Core.Path.{_≡_, sym, ap, _∙_}
 use mathlib.Core.Bool.{true, _&&_}
 use mathlib.Core.List.{List}
 use native.Mathlib.Omega.{arith}
@@ -16,14 +16,13 @@ use Rattle.words.specs.declared.Instruction.{Instruction}
 use Rattle.words.specs.declared.Reading.the-variants.{Decoded}
 use Rattle.words.specs.Answers.{readingOf}
 use Rattle.words.specs.Configs.{lawful}
-use Rattle.words.specs.Rows.{rowAt}
-use Rattle.words.specs.Classes.{none, classOf, rowOf}
-use Rattle.words.specs.Words.{fieldsIn, spread, answered, partsBy, partsOf, readBy, readLawful}
-use Rattle.words.specs.Packed.{Tables, rowLent, numberLent, partsLent}
+use Rattle.words.specs.Classes.{classOf, rowOf}
+use Rattle.words.specs.Words.{answered, partsBy, partsOf, readBy, readLawful}
+use Rattle.words.specs.Packed.{Tables, numberLent, partsLent}
 use Rattle.words.specs.Claims.{understood}
 use Rattle.words.specs.Lookup.{entryAt, entryTable, entryOf, checkAt, upperLimit, lowerLimit, uppers, lowers, Quick, belowLent, Limits}
-use Rattle.words.proofs.ClassTable.{class-at}
-use Rattle.words.proofs.Lent.{row-lent}
+use Rattle.words.proofs.ClassesExact.{class-at}
+use Rattle.words.proofs.Packed.{row-lent}
 use Rattle.words.proofs.Lookup.{quick, row-few}
 
 -- what stands in the tables
@@ -57,7 +56,7 @@ module _ (c : Config) (w n : ℕ) (small : w < 0x100000000) (row : n ≡ rowOf (
       let l = ltb (w % 65536) (lowerLimit c (checkAt (entryOf w % 64))) in
       record { upper = ltb→lt _ _ (and-left u l v); lower = ltb→lt _ _ (and-right u l v) }
 
-read-zero : (c : Config) (w : ℕ) → readLawful c w .number ≡ 0 → readLawful c w ≡ understood (partsOf w)
+read-zero : (c : Config) (w : ℕ) → readLawful c w .number ≡ 0 → readLawful c w ≡ understood (partsOf c w)
 unfolding readLawful readBy partsOf answered pick
 read-zero c w z = rw z
 
@@ -67,17 +66,17 @@ module _ (cs bs ps es us ls : List ℕ) (c : Config) (w n : ℕ) (t : Tables cs 
   unfolding numberLent
   row-here = row ∙ rw (t .classes-right) (ap (λ x. rowOf x (w % 0x800000)) (class-at (w / 0x800000) (omega arith)))
 
-  parts-here : partsLent bs ps n w ≡ partsOf w
+  parts-here : partsLent bs ps c n w ≡ partsOf c w
   unfolding partsLent partsOf partsBy
   parts-here = rw (t .bases-right, t .packs-right, row-lent n, row-here)
 
-  pub quick-lent : Holds (lawful c) → belowLent es us ls n w ≡ true → (i : Instruction) → i ≡ partsLent bs ps n w → readingOf (Decoded i) ≡ readLawful c w
+  pub quick-lent : Holds (lawful c) → belowLent es us ls n w ≡ true → (i : Instruction) → i ≡ partsLent bs ps c n w → readingOf (Decoded i) ≡ readLawful c w
   unfolding readingOf
   quick-lent h b i e =
       let q = quick-here c w n small row-here (rw (l .entries-right, l .uppers-right, l .lowers-right) at b) in
       ap understood (e ∙ parts-here) ∙ sym (quick c w h small q)
 
   -- and so is every word that can be read
-  pub read-parts : readLawful c w .number ≡ 0 → (i : Instruction) → i ≡ partsLent bs ps n w → readingOf (Decoded i) ≡ readLawful c w
+  pub read-parts : readLawful c w .number ≡ 0 → (i : Instruction) → i ≡ partsLent bs ps c n w → readingOf (Decoded i) ≡ readLawful c w
   unfolding readingOf
   read-parts z i e = ap understood (e ∙ parts-here) ∙ sym (read-zero c w z)

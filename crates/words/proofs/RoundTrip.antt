@@ -1,35 +1,34 @@
 -- Writing what was read gives the word back, and reading what was written gives the instruction back (specs/Claims.antt).
 -- Assumes nothing.
 use Prim.Native.Nat.{ℕ, _+_, _-_, _*_, _/_, _%_, _≤_, _<_}
-use mathlib.Core.Path.{_≡_, refl, ap, _∙_, sym}
-use mathlib.Core.Logic.{_⊎_, inl, inr}
-use mathlib.Core.List.{List, [], _∷_}
+use mathlib.Core.Path.{_≡_, refl, ap, _∙_}
+use mathlib.Core.Logic.{inr}
+use mathlib.Core.List.{List}
 use native.Mathlib.Omega.{arith}
 use lib.Dec.{T, leb, leb→le, eqb}
 use Rattle.laws.specs.Choice.{pick}
 use Rattle.laws.specs.Test.{Holds, Member}
-use Rattle.laws.specs.First.{first-failing, Numbered, Obeyed, obeyed}
+use Rattle.laws.specs.First.{first-failing, Numbered, obeyed}
 use Rattle.laws.specs.Lists.{all, all-at}
 use Rattle.words.specs.declared.Config.{Config}
-use Rattle.words.specs.declared.Fields.{Fields}
 use Rattle.words.specs.declared.Instruction.{Instruction}
 use Rattle.words.specs.Configs.{lawful, widths, registerSizes, dataSizes}
-use Rattle.words.specs.Parts.{Part, unused, flag, byte, coprocessor, register, unit, mask, immediate, read-address, write-address, target, count, entry, short, inRange}
+use Rattle.words.specs.Parts.{Part, unused, flag, byte, coprocessor, register, unit, mask, immediate, read-address, write-address, target, count, bank-address, short, inRange}
 use Rattle.words.specs.Rows.{Row, rowCount, rowAt}
 use Rattle.words.specs.Classes.{classOf, fieldOf, rowIn, rowOf}
-use Rattle.words.specs.Words.{flagIn, layoutOf, upperIn, lowerIn, valueIn, fieldsIn, wordFrom, spread, gather, fits, refusals567, refusals, zeros, answered, partsBy, partsOf, readOf, written, wordOf, writeOf}
+use Rattle.words.specs.Words.{layoutOf, upperIn, lowerIn, valueIn, fieldsIn, wordFrom, spread, gather, fits, refusals567, refusals, zeros, answered, partsBy, partsOf, readOf, written, wordOf, writeOf}
 use Rattle.words.specs.Claims.{wrote, understood, ReadThenWrite, WriteThenRead}
 use Rattle.words.proofs.Keys.{key, code, row-facts, layout-sum, most-of, field-back, layout-back, row-found}
 
 -- a word of a row is what its parts are written as
-word-back : (w : ℕ) → w < 0x100000000 → partsOf w .row < rowCount → wordOf (partsOf w) ≡ w
+word-back : (c : Config) (w : ℕ) → w < 0x100000000 → partsOf c w .row < rowCount → wordOf c (partsOf c w) ≡ w
 unfolding wordOf wordFrom gather partsOf partsBy spread fieldsIn
-word-back w hw hr =
+word-back c w hw hr =
     let k = w / 0x800000 in
     let f = w % 0x800000 in
     let r = rowAt (rowOf (classOf k) f) in
     let p = row-facts k f (omega arith) (omega arith) hr in
-    omega (arith, layout-sum (layoutOf (r .value)) (f - code r))
+    omega (arith, layout-sum (layoutOf c (r .value)) (f - code r))
 
 -- instructions with the same parts are one
 
@@ -45,33 +44,33 @@ alike : (i j : Instruction) → i .row ≡ j .row → i .flag ≡ j .flag → i 
 unfolding parts
 alike i j a b c d e f = made a b c d e f
 
-parts-at : (w k f n : ℕ) → w / 0x800000 ≡ k → w % 0x800000 ≡ f → rowOf (classOf k) f ≡ n → partsOf w ≡ spread (fieldsIn n (rowAt n) k f)
+parts-at : (c : Config) (w k f n : ℕ) → w / 0x800000 ≡ k → w % 0x800000 ≡ f → rowOf (classOf k) f ≡ n → partsOf c w ≡ spread c (fieldsIn c n (rowAt n) k f)
 unfolding partsOf partsBy
-parts-at w k f n p q s = rw (p, q, s)
+parts-at c w k f n p q s = rw (p, q, s)
 
 -- the parts of a word are those that it was written from
 module _
-    (i : Instruction) (hn : i .row < rowCount) (hf : i .flag < most-of (rowAt (i .row) .flag))
+    (c : Config) (i : Instruction) (hn : i .row < rowCount) (hf : i .flag < most-of (rowAt (i .row) .flag))
     (hm : i .number < most-of (rowAt (i .row) .number)) (hu : i .destination < most-of (rowAt (i .row) .destination))
     (hl : i .source < most-of (rowAt (i .row) .source)) (hv : i .value < most-of (rowAt (i .row) .value)) where
-  word-fits : wordOf i < 0x100000000
+  word-fits : wordOf c i < 0x100000000
   unfolding wordOf wordFrom gather
-  word-fits = let p = row-found (i .row) (i .flag) (i .number) hn hf hm in omega arith
+  word-fits = let p = row-found c (i .row) (i .flag) (i .number) hn hf hm in omega arith
 
-  parts-back : partsOf (wordOf i) ≡ i
+  parts-back : partsOf c (wordOf c i) ≡ i
   unfolding wordOf wordFrom gather spread fieldsIn rowOf
   parts-back =
       let r = rowAt (i .row) in
       let k = key r + 8 * i .flag + i .number in
       let g = 65536 * i .destination + i .source + i .value in
-      let y = layoutOf (r .value) in
-      let p = row-found (i .row) (i .flag) (i .number) hn hf hm in
+      let y = layoutOf c (r .value) in
+      let p = row-found c (i .row) (i .flag) (i .number) hn hf hm in
       let field = field-back _ _ _ _ _ _ hu hl hv (fieldOf (classOf k)) (code r) (p .1 .1 .1 .0) in
       let back = layout-back _ _ _ _ _ _ hu hl hv y (p .1 .1 .1 .1 .0) in
       let rest : code r + g - code r ≡ g = omega arith in
-      parts-at (wordOf i) k (code r + g) (i .row) (omega arith) (omega arith)
+      parts-at c (wordOf c i) k (code r + g) (i .row) (omega arith) (omega arith)
       (ap (rowIn (classOf k)) field ∙ p .1 .1 .0) ∙
-      alike (spread (fieldsIn (i .row) r k (code r + g))) i refl (p .1 .0)
+      alike (spread c (fieldsIn c (i .row) r k (code r + g))) i refl (p .1 .0)
       (ap (upperIn y) rest ∙ back .0)
       (ap (lowerIn y) rest ∙ back .1)
       (omega (arith, p .1 .0))
@@ -110,7 +109,7 @@ range-most c read-address v b h = omega arith
 range-most c write-address v b h = omega arith
 range-most c target v b h = h
 range-most c count v b h = h .0
-range-most c entry v b h = h
+range-most c bank-address v b h = h
 range-most c short v b h = h
 
 -- what it means that no test fails
@@ -168,10 +167,10 @@ encoded n w v e =
 pub read-then-write : ReadThenWrite
 unfolding readOf writeOf written pick
 read-then-write c w i h e =
-    let n = first-failing (refusals c (rowAt (partsOf w .row)) (partsOf w)) in
-    let p = decoded n (partsOf w) i e in
-    let s = stands c (partsOf w) (p .0) in
-    let b = word-back w h (s .row) in
+    let n = first-failing (refusals c (rowAt (partsOf c w .row)) (partsOf c w)) in
+    let p = decoded n (partsOf c w) i e in
+    let s = stands c (partsOf c w) (p .0) in
+    let b = word-back c w h (s .row) in
     simp (← p .1, p .0, b)
 
 -- an instruction that is written is read back
@@ -179,13 +178,13 @@ pub write-then-read : WriteThenRead
 unfolding readOf writeOf answered pick
 write-then-read c i w e =
     let n = first-failing (refusals c (rowAt (i .row)) i) in
-    let p = encoded n (wordOf i) w e in
+    let p = encoded n (wordOf c i) w e in
     let s = stands c i (p .0) in
-    let b = parts-back i (s .row) (s .flag) (s .number) (s .destination) (s .source) (s .value) in
+    let b = parts-back c i (s .row) (s .flag) (s .number) (s .destination) (s .source) (s .value) in
     simp (← p .1, b, p .0)
 
 -- a word that may be written has 32 bits
-pub writable : (c : Config) (i : Instruction) → first-failing (refusals c (rowAt (i .row)) i) ≡ 0 → wordOf i < 0x100000000
+pub writable : (c : Config) (i : Instruction) → first-failing (refusals c (rowAt (i .row)) i) ≡ 0 → wordOf c i < 0x100000000
 writable c i e =
     let s = stands c i e in
-    word-fits i (s .row) (s .flag) (s .number) (s .destination) (s .source) (s .value)
+    word-fits c i (s .row) (s .flag) (s .number) (s .destination) (s .source) (s .value)

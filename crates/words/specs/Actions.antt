@@ -1,14 +1,13 @@
 -- How code looks a row up: tables that only the proofs need to agree with (proofs/Lookup.antt); nothing here is to be believed. Written by tools/rows.
 use Prim.Native.Nat.{ℕ}
 use mathlib.Core.List.{List, [], _∷_}
-use Rattle.arith.specs.declared.Form.{Form}
-use Rattle.arith.specs.declared.Form.the-variants.{Signed, Unsigned, Shifted}
-use Rattle.arith.specs.declared.Operation.the-variants.{And, Or, Xor, Add, Addc, Sub, Subc, Subs, Shl, Shr, Shra, Rotl, Rotr, Shl16, Abs, Clz, Bst, Bld, Blds}
-use Rattle.words.specs.Parts.{Part, unused, flag, byte, coprocessor, register, unit, mask, immediate, read-address, write-address, target, count, entry, short}
-use Rattle.words.specs.Parts.{Option, nothing, mult, level1, level2, level2-memory, memory, ports, rmw, banks, spr, never}
-use Rattle.words.specs.Kinds.{Operand, from-register, literal, short-literal, counted}
-use Rattle.words.specs.Kinds.{Condition, Z, NZ, GT, LT, GE, LE, NIRQ, B0, B1, NB0, NB1, BIO}
-use Rattle.words.specs.Kinds.{Kind, unsupported, compute, compare, multiply, bytewise, load-index, index-store, index-load, move, load-constant, load-register, load-direct, store-register, store-direct, port-read, port-modify, port-write, jump, branch, jump-register, branch-register, call, call-register, return, return-constant, enter-bank, leave-bank, enter-special, leave-special}
+use Rattle.words.specs.declared.Form.{Form}
+use Rattle.words.specs.declared.Operation.the-variants.{And, Or, Xor, Add, Addc, Sub, Subc, Subs, Shl, Shr, Shra, Rotl, Rotr, Shl16, Abs, Clz, Bst, Bld, Blds}
+use Rattle.words.specs.Parts.{Part, unused, register, unit, immediate, read-address, write-address, count, bank-address}
+use Rattle.words.specs.Parts.{Option, always, mult, level1, level2, level2-memory, memory, ports, rmw, banks, spr, never}
+use Rattle.words.specs.Kinds.{from-register, literal, counted}
+use Rattle.words.specs.Kinds.{Condition}
+use Rattle.words.specs.Kinds.{Kind, unsupported, compute, compare, multiply, bytewise, load-index, index-store, index-load, move, load-constant, load-register, load-direct, store-register, store-direct, port-read, port-modify, port-write, jump, branch, jump-register, branch-register, call, call-register, ret, ret-constant, enter-bank, leave-bank, enter-special, leave-special}
 
 -- which parts of a word an action reads
 
@@ -43,70 +42,70 @@ action does uses = record { does = does; uses = uses }
 
 unfoldable pub actions : List Action
 actions =
-    action (λ f c. unsupported) 0 ∷
-    action (λ f c. compare And from-register) 7 ∷
-    action (λ f c. compare And (literal f)) 19 ∷
-    action (λ f c. compute And from-register) 7 ∷
-    action (λ f c. compute And (literal f)) 19 ∷
-    action (λ f c. compute Or from-register) 7 ∷
-    action (λ f c. compute Or (literal f)) 19 ∷
-    action (λ f c. compute Xor from-register) 7 ∷
-    action (λ f c. compute Xor (literal f)) 19 ∷
-    action (λ f c. compare Sub from-register) 7 ∷
-    action (λ f c. compare Sub (literal f)) 19 ∷
-    action (λ f c. compare Subs from-register) 7 ∷
-    action (λ f c. compare Subs (literal f)) 19 ∷
-    action (λ f c. compute Sub from-register) 7 ∷
-    action (λ f c. compute Sub (literal f)) 19 ∷
-    action (λ f c. compute Subs from-register) 7 ∷
-    action (λ f c. compute Subs (literal f)) 19 ∷
-    action (λ f c. compute Add from-register) 7 ∷
-    action (λ f c. compute Add (literal f)) 19 ∷
-    action (λ f c. compute Addc from-register) 7 ∷
-    action (λ f c. compute Addc (literal f)) 19 ∷
-    action (λ f c. compute Subc from-register) 7 ∷
-    action (λ f c. compute Subc (literal f)) 19 ∷
-    action (λ f c. multiply from-register) 7 ∷
-    action (λ f c. multiply (literal f)) 19 ∷
-    action (λ f c. compute Shr from-register) 7 ∷
-    action (λ f c. compute Shra from-register) 7 ∷
-    action (λ f c. compute Shl from-register) 7 ∷
-    action (λ f c. compute Shr counted) 19 ∷
-    action (λ f c. compute Shra counted) 19 ∷
-    action (λ f c. compute Shl counted) 19 ∷
-    action (λ f c. compute Rotr from-register) 7 ∷
-    action (λ f c. compute Rotl from-register) 7 ∷
-    action (λ f c. compute Shl16 from-register) 7 ∷
-    action (λ f c. compute Abs from-register) 7 ∷
-    action (λ f c. compute Clz from-register) 7 ∷
-    action (λ f c. bytewise Bst) 15 ∷
-    action (λ f c. bytewise Bld) 15 ∷
-    action (λ f c. bytewise Blds) 15 ∷
-    action (λ f c. load-index) 7 ∷
-    action (λ f c. index-store) 3 ∷
-    action (λ f c. index-load) 5 ∷
-    action (λ f c. move) 6 ∷
-    action (λ f c. load-constant f) 18 ∷
-    action (λ f c. load-register) 6 ∷
-    action (λ f c. load-direct) 18 ∷
-    action (λ f c. store-register) 6 ∷
-    action (λ f c. store-direct) 18 ∷
-    action (λ f c. port-read) 6 ∷
-    action (λ f c. port-modify) 6 ∷
-    action (λ f c. port-write from-register) 6 ∷
-    action (λ f c. port-write (literal f)) 18 ∷
-    action (λ f c. jump) 32 ∷
-    action (λ f c. branch c) 32 ∷
-    action (λ f c. jump-register) 2 ∷
-    action (λ f c. branch-register c) 2 ∷
-    action (λ f c. call) 32 ∷
-    action (λ f c. call-register) 2 ∷
-    action (λ f c. return-constant) 18 ∷
-    action (λ f c. enter-bank) 80 ∷
-    action (λ f c. return) 0 ∷
-    action (λ f c. leave-bank) 0 ∷
-    action (λ f c. leave-special) 0 ∷
-    action (λ f c. enter-special) 0 ∷
+    action (λ f c. unsupported) 0 ∷  -- unsupported
+    action (λ f c. compare And from-register) 7 ∷  -- TST-register
+    action (λ f c. compare And (literal f)) 19 ∷  -- TST-immediate
+    action (λ f c. compute And from-register) 7 ∷  -- AND-register
+    action (λ f c. compute And (literal f)) 19 ∷  -- AND-immediate
+    action (λ f c. compute Or from-register) 7 ∷  -- OR-register
+    action (λ f c. compute Or (literal f)) 19 ∷  -- OR-immediate
+    action (λ f c. compute Xor from-register) 7 ∷  -- XOR-register
+    action (λ f c. compute Xor (literal f)) 19 ∷  -- XOR-immediate
+    action (λ f c. compare Sub from-register) 7 ∷  -- CMP-register
+    action (λ f c. compare Sub (literal f)) 19 ∷  -- CMP-immediate
+    action (λ f c. compare Subs from-register) 7 ∷  -- CMPS-register
+    action (λ f c. compare Subs (literal f)) 19 ∷  -- CMPS-immediate
+    action (λ f c. compute Sub from-register) 7 ∷  -- SUB-register
+    action (λ f c. compute Sub (literal f)) 19 ∷  -- SUB-immediate
+    action (λ f c. compute Subs from-register) 7 ∷  -- SUBS-register
+    action (λ f c. compute Subs (literal f)) 19 ∷  -- SUBS-immediate
+    action (λ f c. compute Add from-register) 7 ∷  -- ADD-register
+    action (λ f c. compute Add (literal f)) 19 ∷  -- ADD-immediate
+    action (λ f c. compute Addc from-register) 7 ∷  -- ADDC-register
+    action (λ f c. compute Addc (literal f)) 19 ∷  -- ADDC-immediate
+    action (λ f c. compute Subc from-register) 7 ∷  -- SUBC-register
+    action (λ f c. compute Subc (literal f)) 19 ∷  -- SUBC-immediate
+    action (λ f c. multiply from-register) 7 ∷  -- MUL-register
+    action (λ f c. multiply (literal f)) 19 ∷  -- MUL-immediate
+    action (λ f c. compute Shr from-register) 7 ∷  -- SHR-register
+    action (λ f c. compute Shra from-register) 7 ∷  -- SHRA-register
+    action (λ f c. compute Shl from-register) 7 ∷  -- SHL-register
+    action (λ f c. compute Shr counted) 19 ∷  -- SHR-count
+    action (λ f c. compute Shra counted) 19 ∷  -- SHRA-count
+    action (λ f c. compute Shl counted) 19 ∷  -- SHL-count
+    action (λ f c. compute Rotr from-register) 7 ∷  -- ROTR
+    action (λ f c. compute Rotl from-register) 7 ∷  -- ROTL
+    action (λ f c. compute Shl16 from-register) 7 ∷  -- SHL16
+    action (λ f c. compute Abs from-register) 7 ∷  -- ABS
+    action (λ f c. compute Clz from-register) 7 ∷  -- CLZ
+    action (λ f c. bytewise Bst) 15 ∷  -- BST
+    action (λ f c. bytewise Bld) 15 ∷  -- BLD
+    action (λ f c. bytewise Blds) 15 ∷  -- BLDS
+    action (λ f c. load-index) 7 ∷  -- LDYX
+    action (λ f c. index-store) 3 ∷  -- MOVX-to
+    action (λ f c. index-load) 5 ∷  -- MOVX-from
+    action (λ f c. move) 6 ∷  -- MOV-register
+    action (λ f c. load-constant f) 18 ∷  -- MOV-immediate
+    action (λ f c. load-register) 6 ∷  -- MOV-from-register
+    action (λ f c. load-direct) 18 ∷  -- MOV-from-address
+    action (λ f c. store-register) 6 ∷  -- MOV-to-register
+    action (λ f c. store-direct) 18 ∷  -- MOV-to-address
+    action (λ f c. port-read) 6 ∷  -- MOVIO-read
+    action (λ f c. port-modify) 6 ∷  -- IORMW
+    action (λ f c. port-write from-register) 6 ∷  -- MOVIO-register
+    action (λ f c. port-write (literal f)) 18 ∷  -- MOVIO-immediate
+    action (λ f c. jump) 32 ∷  -- JMP-ALWAYS
+    action (λ f c. branch c) 32 ∷  -- JMP-condition
+    action (λ f c. jump-register) 2 ∷  -- JMP-register-ALWAYS
+    action (λ f c. branch-register c) 2 ∷  -- JMP-register-condition
+    action (λ f c. call) 32 ∷  -- JSR
+    action (λ f c. call-register) 2 ∷  -- JSR-register
+    action (λ f c. ret-constant) 18 ∷  -- RLD
+    action (λ f c. enter-bank) 80 ∷  -- JSRWP
+    action (λ f c. ret) 0 ∷  -- RET
+    action (λ f c. leave-bank) 0 ∷  -- RETWP
+    action (λ f c. leave-special) 0 ∷  -- SPR-OFF
+    action (λ f c. enter-special) 0 ∷  -- SPR-ON
     []
 
 -- what a place of a word may hold beside the code
@@ -124,29 +123,29 @@ input = 1
 abbrev pub load : ℕ
 load = 2
 
--- A check: the code in bits 22-0, what bits 22-16 and 15-0 hold beside it, the option, whether a byte number may not be tested, and what makes it wait.
+-- A check: the code in bits 22-0, what bits 22-16 and 15-0 hold beside it, the option, whether there is a byte number, and what makes it wait.
 pub record Check : Type 0 where
   pub code : ℕ
   pub upper : Side
   pub lower : Side
   pub option : Option
-  pub bytes : ℕ
+  pub numbered : ℕ
   pub wait : ℕ
 
 abbrev pub check : ℕ → Side → Side → Option → ℕ → ℕ → Check
-check code upper lower option bytes wait =
-    record { code = code; upper = upper; lower = lower; option = option; bytes = bytes; wait = wait }
+check code upper lower option numbered wait =
+    record { code = code; upper = upper; lower = lower; option = option; numbered = numbered; wait = wait }
 
 -- the first refuses everything
 unfoldable pub checks : List Check
 checks =
     check 0 (part unused) (part unused) never 0 no-wait ∷
-    check 0x0 (part register) (part register) nothing 0 no-wait ∷
-    check 0x0 (part register) (part immediate) nothing 0 no-wait ∷
+    check 0x0 (part register) (part register) always 0 no-wait ∷
+    check 0x0 (part register) (part immediate) always 0 no-wait ∷
     check 0x0 (part register) (part register) mult 0 no-wait ∷
     check 0x0 (part register) (part immediate) mult 0 no-wait ∷
     check 0x0 (part register) (part register) level1 0 no-wait ∷
-    check 0x0 (part register) (part count) nothing 0 no-wait ∷
+    check 0x0 (part register) (part count) always 0 no-wait ∷
     check 0x100 (part register) (part register) level2 1 no-wait ∷
     check 0x200 (part register) (part register) level2 1 no-wait ∷
     check 0x600 (part register) (part register) level2 1 no-wait ∷
@@ -161,12 +160,12 @@ checks =
     check 0x8000 (part register) (part register) rmw 0 input ∷
     check 0x0 (part register) (part register) ports 0 no-wait ∷
     check 0x0 (part register) (part immediate) ports 0 no-wait ∷
-    check 0x0 anything anything nothing 0 no-wait ∷
+    check 0x0 anything anything always 0 no-wait ∷
     check 0x0 anything anything ports 0 no-wait ∷
-    check 0x0 (part register) (part unused) nothing 0 no-wait ∷
+    check 0x0 (part register) (part unused) always 0 no-wait ∷
     check 0x0 (part register) (part unused) ports 0 no-wait ∷
-    check 0x0 (part unit) (part entry) banks 0 no-wait ∷
-    check 0x0 (part unused) (part unused) nothing 0 no-wait ∷
+    check 0x0 (part unit) (part bank-address) banks 0 no-wait ∷
+    check 0x0 (part unused) (part unused) always 0 no-wait ∷
     check 0x10000 (part unused) (part unused) banks 0 no-wait ∷
     check 0x40000 (part unused) (part unused) spr 0 no-wait ∷
     check 0x50000 (part unused) (part unused) spr 0 no-wait ∷

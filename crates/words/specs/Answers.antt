@@ -1,8 +1,8 @@
 -- Document 01's number and values for each case of an answer.
 use Prim.Native.Nat.{ℕ}
 use mathlib.Core.Bool.{Bool}
-use mathlib.Core.List.{List, [], _∷_}
-use Rattle.laws.specs.Test.{Test, yes?}
+use mathlib.Core.List.{[], _∷_}
+use Rattle.laws.specs.Test.{yes?}
 use Rattle.laws.specs.First.{first-failing}
 use Rattle.words.specs.declared.Instruction.{Instruction}
 use Rattle.words.specs.declared.Refusal.{Refusal}

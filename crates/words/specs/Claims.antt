@@ -1,12 +1,11 @@
 -- What is proved of reading and writing words beside the equations: the round trip both ways, and the table of classes. The public calls' contracts
 -- cite these records, so that none can be dropped.
-use Prim.Native.Nat.{ℕ, _+_, _*_, _/_, _<_}
+use Prim.Native.Nat.{ℕ, _+_, _/_, _<_}
 use mathlib.Core.Path.{_≡_}
 use mathlib.Core.Logic.{_↔_}
-use mathlib.Core.List.{List, [], _∷_, _++_}
+use mathlib.Core.List.{List, [], _++_}
 use Rattle.laws.specs.Test.{Member}
 use Rattle.laws.specs.Choice.{pick}
-use Rattle.laws.specs.Lists.{column}
 use Rattle.laws.specs.Table.{values}
 use Rattle.words.specs.declared.Config.{Config}
 use Rattle.words.specs.declared.Instruction.{Instruction}

@@ -18,14 +18,14 @@ use Rattle.words.specs.Numbers.{RET, RETWP, RETI, SPR-OFF, SPR-ON, IRQM-
 abbrev pub index : ℕ  -- level 2 with 25-23 = 000: bits 15-8 choose
 index = 240
 
-abbrev pub bytes : ℕ  -- level 2 with another byte number: bits 15-8 choose
-bytes = 241
+abbrev pub upper-bytes : ℕ  -- level 2 with another byte number: bits 15-8 choose
+upper-bytes = 241
 
 abbrev pub port : ℕ  -- MOVIO that reads: bit 15 chooses
 port = 242
 
-abbrev pub masks : ℕ  -- IRQ_ON and IRQ_OFF: bit 22 chooses
-masks = 243
+abbrev pub irq-switch : ℕ  -- IRQ_ON and IRQ_OFF: bit 22 chooses
+irq-switch = 243
 
 abbrev pub misc : ℕ  -- 1111 00000: bits 22-16 choose
 misc = 244
@@ -52,7 +52,7 @@ level1Class m = by8 m ROTR ABS none CLZ ROTL none SHL16 none
 
 -- "Level 2: 0NN byte number"
 abbrev pub level2Class : ℕ → ℕ
-level2Class m = by8 m index bytes bytes bytes none none none none
+level2Class m = by8 m index upper-bytes upper-bytes upper-bytes none none none none
 
 -- "1010 MOV, destination mode 27-26, source mode 25-23: 00 with 000, 010 (@%s), 011 (&a) and the three immediates; 10 (@%d) and 11 (&a) with 000 only."
 abbrev pub moveClass : ℕ → ℕ → ℕ
@@ -78,7 +78,7 @@ callClass k =
     (pick (eqb k 0x11) JSR-register
     (pick (eqb k 0x05) RLD
     (pick (eqb k 0x02) JSRWP
-    (pick (eqb k 0x04) masks (pick (eqb k 0x00) misc none)))))
+    (pick (eqb k 0x04) irq-switch (pick (eqb k 0x00) misc none)))))
 
 -- by bits 31-27, and by bits 31-28 from 1010 on
 unfoldable pub classOf : ℕ → ℕ
@@ -98,15 +98,15 @@ classOf k =
 
 -- The field that chooses the row where bits 31-23 leave a choice, and its value; f is bits 22-0.
 pub data Field : Type 0 where
-  nothing bits15-8 bit15 bit22 bits22-16 : Field
+  no-field bits15-8 bit15 bit22 bits22-16 : Field
 
 unfoldable pub fieldOf : ℕ → Field
 fieldOf c =
     pick (eqb c index) bits15-8
-    (pick (eqb c bytes) bits15-8 (pick (eqb c port) bit15 (pick (eqb c masks) bit22 (pick (eqb c misc) bits22-16 nothing))))
+    (pick (eqb c upper-bytes) bits15-8 (pick (eqb c port) bit15 (pick (eqb c irq-switch) bit22 (pick (eqb c misc) bits22-16 no-field))))
 
 unfoldable pub codeAt : Field → ℕ → ℕ
-codeAt nothing f = 0
+codeAt no-field f = 0
 codeAt bits15-8 f = f / 256 % 256
 codeAt bit15 f = f / 32768 % 2
 codeAt bit22 f = f / 0x400000 % 2
@@ -138,7 +138,7 @@ miscRows =
 unfoldable pub choices : ℕ → List (ℕ × ℕ)
 choices c =
     pick (eqb c index) indexRows
-    (pick (eqb c bytes) byteRows (pick (eqb c port) portRows (pick (eqb c masks) maskRows (pick (eqb c misc) miscRows []))))
+    (pick (eqb c upper-bytes) byteRows (pick (eqb c port) portRows (pick (eqb c irq-switch) maskRows (pick (eqb c misc) miscRows []))))
 
 -- the row of code n in a list of codes
 abbrev pub lookup : List (ℕ × ℕ) → ℕ → ℕ

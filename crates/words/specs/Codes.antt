@@ -1,13 +1,12 @@
 -- The numbers that stand for parts, options, marks, forms and conditions in the tables that code holds. Nothing here is to be believed: a number that is read
--- back gives what it stands for.
-use Prim.Native.Nat.{ℕ, _+_, _/_}
+-- back gives what it stands for. Written by tools/rows.
+use Prim.Native.Nat.{ℕ, _+_}
 use mathlib.Core.List.{List, [], _∷_}
 use lib.ListN.{getD}
-use Rattle.arith.specs.declared.Form.{Form}
-use Rattle.arith.specs.declared.Form.the-variants.{Signed, Unsigned, Shifted}
-use Rattle.words.specs.declared.Config.{Config}
-use Rattle.words.specs.Parts.{Part, unused, flag, byte, coprocessor, register, unit, mask, immediate, read-address, write-address, target, count, entry, short}
-use Rattle.words.specs.Parts.{Option, nothing, mult, level1, level2, level2-memory, memory, ports, rmw, banks, spr, never}
+use Rattle.words.specs.declared.Form.{Form}
+use Rattle.words.specs.declared.Form.the-variants.{Signed, Unsigned, Shifted}
+use Rattle.words.specs.Parts.{Part, unused, flag, byte, coprocessor, register, unit, mask, immediate, read-address, write-address, target, count, bank-address, short}
+use Rattle.words.specs.Parts.{Option, always, mult, level1, level2, level2-memory, memory, ports, rmw, banks, spr, never}
 use Rattle.words.specs.Kinds.{Condition, Z, NZ, GT, LT, GE, LE, BIO}
 use Rattle.words.specs.Kinds.{Mark, goes-on, jumps, calls, returns, enters-mode, leaves-mode, reveals, reads-port, writes-port, loads, stores, by-register, enters-bank, leaves-bank, barred}
 
@@ -24,18 +23,18 @@ partCode read-address = 8
 partCode write-address = 9
 partCode target = 10
 partCode count = 11
-partCode entry = 12
+partCode bank-address = 12
 partCode short = 13
 
 abbrev pub parts : List Part
-parts = unused ∷ flag ∷ byte ∷ coprocessor ∷ register ∷ unit ∷ mask ∷ immediate ∷ read-address ∷ write-address ∷ target ∷ count ∷ entry ∷ []
+parts = unused ∷ flag ∷ byte ∷ coprocessor ∷ register ∷ unit ∷ mask ∷ immediate ∷ read-address ∷ write-address ∷ target ∷ count ∷ bank-address ∷ []
 
 -- any other number is read as short
 unfoldable pub partAt : ℕ → Part
 partAt n = getD parts n short
 
 unfoldable pub optionCode : Option → ℕ
-optionCode nothing = 0
+optionCode always = 0
 optionCode mult = 1
 optionCode level1 = 2
 optionCode level2 = 3
@@ -48,7 +47,7 @@ optionCode spr = 9
 optionCode never = 10
 
 abbrev pub options : List Option
-options = nothing ∷ mult ∷ level1 ∷ level2 ∷ level2-memory ∷ memory ∷ ports ∷ rmw ∷ banks ∷ spr ∷ never ∷ []
+options = always ∷ mult ∷ level1 ∷ level2 ∷ level2-memory ∷ memory ∷ ports ∷ rmw ∷ banks ∷ spr ∷ never ∷ []
 
 unfoldable pub optionAt : ℕ → Option
 optionAt n = getD options n never
@@ -83,20 +82,3 @@ weight barred = 16384
 abbrev pub weights : List Mark → ℕ
 weights [] = 0
 weights (m ∷ ms) = weight m + weights ms
-
--- what a part in its range stays below
-unfoldable pub limitOf : Config → Part → ℕ
-limitOf c unused = 1
-limitOf c flag = 2
-limitOf c byte = c .regwidth / 8
-limitOf c coprocessor = 32
-limitOf c register = c .regsize
-limitOf c unit = 64
-limitOf c mask = 16
-limitOf c immediate = 65536
-limitOf c read-address = c .dmsize
-limitOf c write-address = c .dmsize
-limitOf c target = 0x800000
-limitOf c count = 16
-limitOf c entry = 65536
-limitOf c short = 256

@@ -1,4 +1,4 @@
--- How code finds the entry of a word by its bits 31-23 at once, and a check's two limits as one mask. Nothing here is to be believed: proofs/Found.antt
+-- How code finds the entry of a word by its bits 31-23 at once, and a check's two limits as one mask. Nothing here is to be believed: proofs/Finding.antt
 -- ties it to Lookup.
 use Prim.Native.Nat.{ℕ, _+_, _-_, _*_}
 use mathlib.Core.Bool.{_||_}

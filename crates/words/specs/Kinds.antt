@@ -1,8 +1,8 @@
 -- What an instruction does: its kind, which a step goes by; and what rules, stops and cycles ask of a kind. Written by tools/rows.
 use Prim.Native.Nat.{ℕ}
 use mathlib.Core.List.{List, [], _∷_}
-use Rattle.arith.specs.declared.Form.{Form}
-use Rattle.arith.specs.declared.Operation.{Operation}
+use Rattle.words.specs.declared.Form.{Form}
+use Rattle.words.specs.declared.Operation.{Operation}
 
 -- the second operand
 pub data Operand : Type 0 where
@@ -16,7 +16,7 @@ pub data Condition : Type 0 where
   Z NZ GT LT GE LE NIRQ B0 B1 NB0 NB1 BIO : Condition
 
 pub data Kind : Type 0 where
-  unsupported : Kind  -- a row that no configuration has
+  unsupported : Kind  -- no configuration has the row
   compute : Operation → Operand → Kind  -- %d gets the result of %d and the operand
   compare : Operation → Operand → Kind  -- flags alone: TST, CMP and CMPS are And, Sub and Subs that write no register
   multiply : Operand → Kind  -- MUL
@@ -29,7 +29,7 @@ pub data Kind : Type 0 where
   load-register : Kind  -- MOV %d,@%s
   load-direct : Kind  -- MOV %d,&a
   store-register : Kind  -- MOV @%d,%s
-  store-direct : Kind  -- MOV &a,%s
+  store-direct : Kind  -- MOV &a,%s: "source register in 22-16"
   port-read : Kind  -- MOVIO %d,@%s
   port-modify : Kind  -- IORMW
   port-write : Operand → Kind  -- MOVIO @%d,operand
@@ -39,8 +39,8 @@ pub data Kind : Type 0 where
   branch-register : Condition → Kind  -- JMP @%d,condition
   call : Kind  -- JSR target
   call-register : Kind  -- JSR @%d
-  return : Kind  -- RET
-  return-constant : Kind  -- RLD, the signed form
+  ret : Kind  -- RET
+  ret-constant : Kind  -- RLD, the signed form
   enter-bank : Kind  -- JSRWP
   leave-bank : Kind  -- RETWP
   enter-special : Kind  -- SPR_ON
@@ -89,8 +89,8 @@ marksOf jump-register = barred ∷ []
 marksOf (branch-register a) = goes-on ∷ barred ∷ []
 marksOf call = goes-on ∷ jumps ∷ calls ∷ []
 marksOf call-register = goes-on ∷ calls ∷ barred ∷ []
-marksOf return = returns ∷ []
-marksOf return-constant = returns ∷ []
+marksOf ret = returns ∷ []
+marksOf ret-constant = returns ∷ []
 marksOf enter-bank = enters-bank ∷ barred ∷ []
 marksOf leave-bank = leaves-bank ∷ barred ∷ []
 marksOf enter-special = goes-on ∷ enters-mode ∷ []

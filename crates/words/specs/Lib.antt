@@ -1,6 +1,7 @@
 pub mod Configs
 pub mod Parts
 pub mod Kinds
+pub mod Frames
 pub mod Rows
 pub mod Numbers
 pub mod Classes

@@ -3,7 +3,7 @@
 use Prim.Native.Nat.{ℕ, _+_, _/_, _%_, _<_}
 use mathlib.Core.Bool.{Bool, _&&_, not}
 use mathlib.Core.Path.{_≡_}
-use mathlib.Core.List.{List, [], _∷_}
+use mathlib.Core.List.{List}
 use lib.Dec.{T, eqb, ltb}
 use lib.ListN.{getD}
 use Rattle.laws.specs.Choice.{pick}
@@ -14,7 +14,8 @@ use Rattle.words.specs.declared.Instruction.{Instruction}
 use Rattle.words.specs.Parts.{unused, count, never, is, available}
 use Rattle.words.specs.Kinds.{Kind, unsupported}
 use Rattle.words.specs.Classes.{classOf, rowOf}
-use Rattle.words.specs.Codes.{formAt, conditionAt, limitOf}
+use Rattle.words.specs.Codes.{formAt, conditionAt}
+use Rattle.words.specs.Packed.{limitOf}
 use Rattle.words.specs.Actions.{flag′, destination′, source′, number′, value′, target′, unit′, Action, action, actions, Side, anything, part, no-wait, input, load, Check, check, checks, entries}
 
 -- Entries
@@ -53,7 +54,7 @@ limitIn c all (part p) = pick (is p count && eqb (c .alulevel) 0) 0 (limitOf c p
 -- what bits 22-16 of a word stay below by check k: 0, so that no word passes, where its option is off, or a byte number is left to the exact verdict
 unfoldable pub upperLimit : Config → Check → ℕ
 upperLimit c k =
-    pick (test (available c (k .option)) && imp (eqb (k .bytes) 1) (eqb (c .regwidth) 32)) (k .code / 65536 + limitIn c 128 (k .upper)) 0
+    pick (test (available c (k .option)) && imp (eqb (k .numbered) 1) (eqb (c .regwidth) 32)) (k .code / 65536 + limitIn c 128 (k .upper)) 0
 
 -- what bits 15-0 stay below
 unfoldable pub lowerLimit : Config → Check → ℕ

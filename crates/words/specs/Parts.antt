@@ -20,7 +20,7 @@ pub data Part : Type 0 where
   write-address : Part  -- direct data address that is written
   target : Part  -- target of JMP or JSR
   count : Part  -- shift count
-  entry : Part  -- JSRWP address
+  bank-address : Part  -- JSRWP address
   short : Part  -- 8-bit immediate
   deriving Discrete as Part-discrete
 
@@ -42,12 +42,12 @@ inRange c read-address v = less v (c .dmsize)
 inRange c write-address v = less v (c .dmsize)
 inRange c target v = less v 0x800000
 inRange c count v = less v 16 and if? (eqb (c .alulevel) 0) (same v 1)  -- "immediate, 0 to 15, at level 0 only 1"
-inRange c entry v = less v 65536
+inRange c bank-address v = less v 65536
 inRange c short v = less v 256
 
 -- the option that a row needs
 pub data Option : Type 0 where
-  nothing : Option
+  always : Option
   mult : Option
   level1 : Option
   level2 : Option
@@ -65,7 +65,7 @@ needs o q = decided (Option-discrete o q)
 
 -- "row needs an option that is off" (6)
 unfoldable pub available : Config → Option → Test
-available c nothing = yes? true
+available c always = yes? true
 available c mult = same (c .alumult) 1
 available c level1 = less 0 (c .alulevel)
 available c level2 = less 1 (c .alulevel)

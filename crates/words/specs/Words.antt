@@ -23,8 +23,8 @@ flagIn p k = pick (is p flag) (k / 8 % 2) 0
 pub data Layout : Type 0 where
   registers upper-value whole : Layout
 
-unfoldable pub layoutOf : Part → Layout
-layoutOf v = pick (is v unused) registers (pick (is v target) whole upper-value)
+unfoldable pub layoutOf : Config → Part → Layout
+layoutOf c v = pick (is v unused) registers (pick (is v target) whole upper-value)
 
 unfoldable pub upperIn : Layout → ℕ → ℕ
 upperIn registers f = f / 65536
@@ -42,16 +42,16 @@ valueIn upper-value f = f % 65536
 valueIn whole f = f
 
 -- the fields of a word of row n: k is bits 31-23, f bits 22-0
-unfoldable pub fieldsIn : ℕ → Row → ℕ → ℕ → Fields
-fieldsIn n r k f =
+unfoldable pub fieldsIn : Config → ℕ → Row → ℕ → ℕ → Fields
+fieldsIn c n r k f =
     let rest = f - r .base % 0x800000 in
     record {
       row = n;
       flag = flagIn (r .flag) k;
       number = k - (r .base / 0x800000 + 8 * flagIn (r .flag) k);
-      upper = upperIn (layoutOf (r .value)) rest;
-      lower = lowerIn (layoutOf (r .value)) rest;
-      value = valueIn (layoutOf (r .value)) rest;
+      upper = upperIn (layoutOf c (r .value)) rest;
+      lower = lowerIn (layoutOf c (r .value)) rest;
+      value = valueIn (layoutOf c (r .value)) rest;
     }
 
 -- the word that has these fields, over the row's base
@@ -60,8 +60,8 @@ wordFrom base s = base + 0x4000000 * s .flag + 0x800000 * s .number + 65536 * s 
 
 -- From fields to the instruction's parts and back
 
-unfoldable pub spread : Fields → Instruction
-spread s =
+unfoldable pub spread : Config → Fields → Instruction
+spread c s =
     record {
       row = s .row;
       flag = s .flag;
@@ -71,8 +71,8 @@ spread s =
       value = s .value;
     }
 
-unfoldable pub gather : Instruction → Fields
-gather i =
+unfoldable pub gather : Config → Instruction → Fields
+gather c i =
     record {
       row = i .row;
       flag = i .flag;
@@ -115,19 +115,19 @@ unfoldable pub answered : ℕ → Instruction → Read
 answered n i = record { number = n; instruction = pick (eqb n 0) i zeros }
 
 -- the parts of word w, where classAt gives the class of bits 31-23 and row-at the row of a number
-unfoldable pub partsBy : (ℕ → ℕ) → (ℕ → Row) → ℕ → Instruction
-partsBy classAt row-at w =
+unfoldable pub partsBy : (ℕ → ℕ) → (ℕ → Row) → Config → ℕ → Instruction
+partsBy classAt row-at c w =
     let k = w / 0x800000 in
     let f = w % 0x800000 in
     let n = rowOf (classAt k) f in
-    spread (fieldsIn n (row-at n) k f)
+    spread c (fieldsIn c n (row-at n) k f)
 
-unfoldable pub partsOf : ℕ → Instruction
-partsOf w = partsBy classOf rowAt w
+unfoldable pub partsOf : Config → ℕ → Instruction
+partsOf c w = partsBy classOf rowAt c w
 
 unfoldable pub readBy : (ℕ → ℕ) → (ℕ → Row) → Config → ℕ → Read
 readBy classAt row-at c w =
-    let i = partsBy classAt row-at w in
+    let i = partsBy classAt row-at c w in
     answered (first-failing (refusals567 c (row-at (i .row)) i)) i
 
 -- reading under a configuration that is known to be lawful: 5, 6, 7
@@ -136,7 +136,7 @@ readLawful c w = readBy classOf rowAt c w
 
 -- reading: 1, 5, 6, 7
 unfoldable pub readOf : Config → ℕ → Read
-readOf c w = let i = partsOf w in answered (first-failing (refusals c (rowAt (i .row)) i)) i
+readOf c w = let i = partsOf c w in answered (first-failing (refusals c (rowAt (i .row)) i)) i
 
 -- Writing
 
@@ -148,11 +148,11 @@ pub record Written : Type 0 where
 unfoldable pub written : ℕ → ℕ → Written
 written n w = record { number = n; word = pick (eqb n 0) w 0 }
 
-unfoldable pub wordOf : Instruction → ℕ
-wordOf i = wordFrom (rowAt (i .row) .base) (gather i)
+unfoldable pub wordOf : Config → Instruction → ℕ
+wordOf c i = wordFrom (rowAt (i .row) .base) (gather c i)
 
 unfoldable pub writeLawful : Config → Instruction → Written
-writeLawful c i = written (first-failing (refusals567 c (rowAt (i .row)) i)) (wordOf i)
+writeLawful c i = written (first-failing (refusals567 c (rowAt (i .row)) i)) (wordOf c i)
 
 unfoldable pub writeOf : Config → Instruction → Written
-writeOf c i = written (first-failing (refusals c (rowAt (i .row)) i)) (wordOf i)
+writeOf c i = written (first-failing (refusals c (rowAt (i .row)) i)) (wordOf c i)

@@ -13,6 +13,8 @@ use crate::Fields;
 use crate::Instruction;
 use crate::Reading;
 use crate::Refusal;
+use crate::codes;
+use crate::layout;
 use crate::numbers;
 use crate::rows::base_at;
 use crate::rows::class_at;
@@ -40,32 +42,36 @@ fn flag_in(p: u64, k: u32) -> u32
     ensures { λ r. ⌜ (r ≡ flagIn (partAt (p % 16)) k) × (r < 2) ⌝ }
 {
     let holds = flag_digit(p);
-    if holds == 1 { k / 8 % 2 } else { 0 }
+    if holds == codes::FLAG { k / 8 % 2 } else { 0 }
 }
 
 // The fields of a word of row n: k is bits 31-23, f bits 22-0.
-fn fields_in(n: u32, base: u32, p: u64, k: u32, f: u32) -> Fields
-    ensures { λ r. ⌜ r ≡ fieldsIn n (unpack base p unsupported) k f ⌝ }
+fn fields_in(c: Config, n: u32, base: u32, p: u64, k: u32, f: u32) -> Fields
+    ensures { λ r. ⌜ r ≡ fieldsIn c n (unpack base p unsupported) k f ⌝ }
 {
-    let rest = less(f, base % 8388608);
+    let rest = less(f, base % layout::KEY);
     let flag = flag_in(p, k);
-    let number = less(k, base / 8388608 + 8 * flag);
-    let holds = digit(p, 0x10000);
-    let high = rest / 65536;
-    let low = rest % 65536;
+    let number = less(k, base / layout::KEY + 8 * flag);
+    let holds = digit(p, codes::VALUE_DIGIT);
+    let high = rest / layout::UPPER;
+    let low = rest % layout::UPPER;
     Fields {
         row: n,
         flag,
         number,
-        upper: pick(holds == 0, high, pick(holds == 10, 0, high)),
-        lower: pick(holds == 0, low, 0),
-        value: pick(holds == 0, 0, pick(holds == 10, rest, low)),
+        upper: pick(holds == codes::TARGET, 0, high),
+        lower: pick(holds == codes::UNUSED, low, 0),
+        value: pick(
+            holds == codes::TARGET,
+            rest,
+            pick(holds == codes::UNUSED, 0, low),
+        ),
     }
 }
 
 // The instruction's parts, from the word's fields.
-fn spread_fields(s: Fields) -> Instruction
-    ensures { λ r. ⌜ r ≡ spread s ⌝ }
+fn spread_fields(c: Config, s: Fields) -> Instruction
+    ensures { λ r. ⌜ r ≡ spread c s ⌝ }
 {
     Instruction {
         row: s.row,
@@ -94,17 +100,17 @@ fn judge(known: bool, there: bool, fit: bool, i: Instruction) -> Reading
 }
 
 // Reading by lent tables, without a look at refusal 1: for callers that hold the tables and have validated the configuration. Whatever the tables
-// hold, the answer is `readLent` of them; with the tables of this crate that is `readLawful` (proofs/Lent.antt, `lent`).
+// hold, the answer is `readLent` of them; with the tables of this crate that is `readLawful` (proofs/Packed.antt, `lent`).
 pub fn read_word_lent(classes: &[u8], bases: &[u32], packs: &[u64], c: Config, w: u32) -> Reading
     ensures { λ r. ⌜ readingOf r ≡ readLent (now (classes .entry)) (now (bases .entry)) (now (packs .entry)) c w ⌝ }
 {
-    let k = w / 8388608;
-    let f = w % 8388608;
+    let k = w / layout::KEY;
+    let f = w % layout::KEY;
     let n = row_of(class_at(classes, k), f);
     let base = base_at(bases, n);
     let p = packed_at(packs, n);
-    let i = spread_fields(fields_in(n, base, p, k, f));
-    let there = available_in(c, digit(p, 0x100000));
+    let i = spread_fields(c, fields_in(c, n, base, p, k, f));
+    let there = available_in(c, digit(p, codes::OPTION_DIGIT));
     let fit = parts_fit(c, p, i);
     judge(n < numbers::ROW_COUNT, there, fit, i)
 }
@@ -117,7 +123,7 @@ pub fn read_word_lent(classes: &[u8], bases: &[u32], packs: &[u64], c: Config, w
 pub fn row_lent(classes: &[u8], w: u32) -> u32
     ensures { λ r. ⌜ r ≡ numberLent (now (classes .entry)) w ⌝ }
 {
-    row_of(class_at(classes, w / 8388608), w % 8388608)
+    row_of(class_at(classes, w / layout::KEY), w % layout::KEY)
 }
 
 // Whether word w, of row n, is below the two limits of its check.
@@ -125,33 +131,41 @@ pub fn below_limits(entries: &[u32], uppers: &[u64], lowers: &[u64], n: u32, w: 
     ensures { λ r. ⌜ r ≡ belowLent (now (entries .entry)) (now (uppers .entry)) (now (lowers .entry)) n w ⌝ }
 {
     let t = base_at(entries, n) % 64;
-    let upper = (w / 65536 % 128) as u64;
-    let lower = (w % 65536) as u64;
+    let upper = (w / layout::UPPER % layout::UPPER_VALUES) as u64;
+    let lower = (w % layout::UPPER) as u64;
     (upper < limit_at(uppers, t)) & (lower < limit_at(lowers, t))
 }
 
 // The parts of word w, of row n.
-pub fn parts_lent(bases: &[u32], packs: &[u64], n: u32, w: u32) -> Instruction
-    ensures { λ r. ⌜ r ≡ partsLent (now (bases .entry)) (now (packs .entry)) n w ⌝ }
+pub fn parts_lent(bases: &[u32], packs: &[u64], c: Config, n: u32, w: u32) -> Instruction
+    ensures { λ r. ⌜ r ≡ partsLent (now (bases .entry)) (now (packs .entry)) c n w ⌝ }
 {
     let base = base_at(bases, n);
     let p = packed_at(packs, n);
-    spread_fields(fields_in(n, base, p, w / 8388608, w % 8388608))
+    spread_fields(
+        c,
+        fields_in(c, n, base, p, w / layout::KEY, w % layout::KEY),
+    )
 }
 
 // Reading without a look at refusal 1, for callers that have validated the configuration.
+// A word of no row is refused first: after that `base_of` and `packed_of` compile to plain tables.
 pub fn read_word_lawful(c: Config, w: u32) -> Reading
     ensures { λ r. ⌜ readingOf r ≡ readLawful c w ⌝ }
 {
-    let k = w / 8388608;
-    let f = w % 8388608;
+    let k = w / layout::KEY;
+    let f = w % layout::KEY;
     let n = row_of(class_of(k), f);
-    let base = base_of(n);
-    let p = packed_of(n);
-    let i = spread_fields(fields_in(n, base, p, k, f));
-    let there = available_in(c, digit(p, 0x100000));
-    let fit = parts_fit(c, p, i);
-    judge(n < numbers::ROW_COUNT, there, fit, i)
+    if n < numbers::ROW_COUNT {
+        let base = base_of(n);
+        let p = packed_of(n);
+        let i = spread_fields(c, fields_in(c, n, base, p, k, f));
+        let there = available_in(c, digit(p, codes::OPTION_DIGIT));
+        let fit = parts_fit(c, p, i);
+        judge(true, there, fit, i)
+    } else {
+        Reading::Refused(Refusal::NoRow)
+    }
 }
 
 // What a word says: the instruction, or the refusal. Where it is an instruction, writing that gives the word.

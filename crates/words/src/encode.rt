@@ -11,6 +11,8 @@ use crate::Fields;
 use crate::Instruction;
 use crate::Refusal;
 use crate::Writing;
+use crate::codes;
+use crate::layout;
 use crate::numbers;
 use crate::rows::base_at;
 use crate::rows::digit;
@@ -21,8 +23,8 @@ use crate::verdict::available_in;
 use crate::verdict::parts_fit;
 
 // The word's fields, from the instruction's parts.
-fn gather_parts(i: Instruction) -> Fields
-    ensures { λ r. ⌜ r ≡ gather i ⌝ }
+fn gather_parts(c: Config, i: Instruction) -> Fields
+    ensures { λ r. ⌜ r ≡ gather c i ⌝ }
 {
     Fields {
         row: i.row,
@@ -39,7 +41,12 @@ fn word_from(base: u32, s: Fields) -> u32
     requires { ⌜ wordFrom base s < 4294967296 ⌝ }
     ensures { λ r. ⌜ r ≡ wordFrom base s ⌝ }
 {
-    base + 67108864 * s.flag + 8388608 * s.number + 65536 * s.upper + s.lower + s.value
+    base
+        + layout::FLAG * s.flag
+        + layout::NUMBER * s.number
+        + layout::UPPER * s.upper
+        + s.lower
+        + s.value
 }
 
 // Writing under a configuration that is known to be lawful.
@@ -50,7 +57,7 @@ fn encoded(c: Config, i: Instruction) -> Writing
     let n = i.row;
     let packs = row_table();
     let p = packed_at(&packs, n);
-    let there = available_in(c, digit(p, 0x100000));
+    let there = available_in(c, digit(p, codes::OPTION_DIGIT));
     let fit = parts_fit(c, p, i);
     if numbers::ROW_COUNT <= n {
         return Writing::Refused(Refusal::NoRow);
@@ -62,7 +69,7 @@ fn encoded(c: Config, i: Instruction) -> Writing
         return Writing::Refused(Refusal::OutOfRange);
     }
     let bases = base_table();
-    Writing::Encoded(word_from(base_at(&bases, n), gather_parts(i)))
+    Writing::Encoded(word_from(base_at(&bases, n), gather_parts(c, i)))
 }
 
 // The word of an instruction, or the refusal. Where it is a word, reading that gives the instruction.

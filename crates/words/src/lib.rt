@@ -3,13 +3,16 @@
 ghost use mathlib.Core.Path.{_≡_};
 ghost use Rattle.words.specs.Answers.{refusalNumber};
 
+pub mod actions;
 mod classes;
+pub mod codes;
 mod columns;
 pub mod configuration;
 pub mod decode;
 pub mod encode;
 pub mod entries;
 mod keyed;
+pub mod layout;
 pub mod meaning;
 pub mod numbers;
 mod rows;
@@ -30,9 +33,7 @@ pub use entries::lower_limits;
 pub use entries::mask_table;
 pub use entries::upper_limits;
 pub use meaning::facts_in;
-pub use meaning::facts_lent;
 pub use meaning::packed_lent;
-pub use meaning::row_facts;
 pub use tables::base_table;
 pub use tables::class_table;
 pub use tables::field_table;
@@ -72,6 +73,36 @@ pub struct Instruction {
     pub source: u32,
     pub number: u32,
     pub value: u32,
+}
+
+// The three forms of a 16-bit immediate: #, > and < in the manual's notation.
+pub enum Form {
+    Signed,
+    Unsigned,
+    Shifted,
+}
+
+// What the ALU does. TST, CMP and CMPS are And, Sub and Subs whose result is not written; a byte operation holds its byte number.
+pub enum Operation {
+    And,
+    Or,
+    Xor,
+    Add,
+    Addc,
+    Sub,
+    Subc,
+    Subs,
+    Shl,
+    Shr,
+    Shra,
+    Rotl,
+    Rotr,
+    Shl16,
+    Abs,
+    Clz,
+    Bst(u32),
+    Bld(u32),
+    Blds(u32),
 }
 
 // The fields of a word by place: bit 26, the number in the low bits of 31-23, bits 22-16, the bits below them, and the value.

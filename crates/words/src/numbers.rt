@@ -261,5 +261,14 @@ pub const SPR_ON: u32 = 128;
 pub const IRQM_RLD: u32 = 129;
 
 pub const IRQM_SS: u32 = 130;
+
 // How many rows there are: a number from here on names none.
 pub const ROW_COUNT: u32 = 131;
+
+// The rows of level 2 by their code in bits 15-8, a hex digit each, counted from CLZ, the row before BST; 0 names none. Codes from 16 on stand apart.
+pub const BYTE_ROWS: u64 = 0x3000210;
+
+pub const INDEX_ROWS: u64 = 0x6000500040000;
+
+// The rows of 1111 00000 by bits 22-16, a byte each.
+pub const MISC_ROWS: u64 = 0x8281807fff7e7d7c;

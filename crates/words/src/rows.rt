@@ -5,20 +5,24 @@ ghost use lib.ListN.{getD};
 ghost use Rattle.laws.specs.Choice.{pick as choice};
 ghost use Rattle.words.specs.Classes.{none, lookup, byteRows, indexRows, portRows, maskRows, miscRows, rowOf};
 ghost use Rattle.words.specs.Packed.{digitRow, noPacked};
+use crate::layout;
 use crate::numbers;
 
 // The classes whose row another field chooses, and the class of no row (specs/Classes.antt).
 const INDEX: u32 = 240;
 
-const BYTES: u32 = 241;
+const UPPER_BYTES: u32 = 241;
 
 const PORT: u32 = 242;
 
-const MASKS: u32 = 243;
+const IRQ_SWITCH: u32 = 243;
 
 const MISC: u32 = 244;
 
 const NONE: u32 = 255;
+
+// The packed columns of no row (specs/Packed.antt): nothing used, never available.
+const NO_PACKED: u64 = 0xa00000;
 
 pub fn pick(b: bool, x: u32, y: u32) -> u32
     ensures { λ r. ⌜ r ≡ choice b x y ⌝ }
@@ -35,17 +39,11 @@ fn digit_row(rows: u64, n: u32) -> u32
     pick(d == 0, NONE, numbers::CLZ + d)
 }
 
-// BST, BLD and BLDS by digit.
-const BYTE_ROWS: u64 = 0x03000210;
-
-// LDYX and MOVX by digit, from code 16 on.
-const INDEX_ROWS: u64 = 0x0006000500040000;
-
 fn byte_row(n: u32) -> u32
     ensures { λ r. ⌜ r ≡ lookup byteRows n ⌝ }
 {
     if n < 16 {
-        digit_row(BYTE_ROWS, n)
+        digit_row(numbers::BYTE_ROWS, n)
     } else {
         NONE
     }
@@ -55,10 +53,10 @@ fn index_row(n: u32) -> u32
     ensures { λ r. ⌜ r ≡ lookup indexRows n ⌝ }
 {
     if n < 16 {
-        return digit_row(BYTE_ROWS, n);
+        return digit_row(numbers::BYTE_ROWS, n);
     }
     if n < 32 {
-        return digit_row(INDEX_ROWS, n - 16);
+        return digit_row(numbers::INDEX_ROWS, n - 16);
     }
     NONE
 }
@@ -67,7 +65,7 @@ fn index_row(n: u32) -> u32
 fn port_row(f: u32) -> u32
     ensures { λ r. ⌜ r ≡ lookup portRows (f / 32768 % 2) ⌝ }
 {
-    numbers::MOVIO_READ + f / 32768 % 2
+    numbers::MOVIO_READ + f / layout::MODIFY % 2
 }
 
 fn mask_row(n: u32) -> u32
@@ -80,14 +78,11 @@ fn mask_row(n: u32) -> u32
     )
 }
 
-// The rows from RET on, by byte; 3 names none.
-const MISC_ROWS: u64 = 0x8281807fff7e7d7c;
-
 fn misc_row(n: u32) -> u32
     ensures { λ r. ⌜ r ≡ lookup miscRows n ⌝ }
 {
     if n < 8 {
-        ((MISC_ROWS >> (8 * n)) % 256) as u32
+        ((numbers::MISC_ROWS >> (8 * n)) % 256) as u32
     } else {
         NONE
     }
@@ -101,19 +96,19 @@ pub fn row_of(c: u32, f: u32) -> u32
         return c;
     }
     if c == INDEX {
-        return index_row(f / 256 % 256);
+        return index_row(f / layout::LEVEL2 % layout::LEVEL2_CODES);
     }
     if c == MISC {
-        return misc_row(f / 65536);
+        return misc_row(f / layout::UPPER);
     }
     if c == PORT {
         return port_row(f);
     }
-    if c == BYTES {
-        return byte_row(f / 256 % 256);
+    if c == UPPER_BYTES {
+        return byte_row(f / layout::LEVEL2 % layout::LEVEL2_CODES);
     }
-    if c == MASKS {
-        return mask_row(f / 4194304 % 2);
+    if c == IRQ_SWITCH {
+        return mask_row(f / layout::SWITCH_OFF % 2);
     }
     NONE
 }
@@ -145,7 +140,7 @@ pub fn packed_at(packs: &[u64], n: u32) -> u64
     if at < packs.len() {
         packs[at]
     } else {
-        0xa00000
+        NO_PACKED
     }
 }
 
@@ -163,10 +158,10 @@ pub fn flag_digit(p: u64) -> u32
     (p % 16) as u32
 }
 
-// The digit of weight `unit` in a row's packed number.
-pub fn digit(p: u64, unit: u64) -> u32
-    requires { ⌜ 0 < unit ⌝ }
-    ensures { λ r. ⌜ r ≡ p / unit % 16 ⌝ }
+// The digit of weight `weight` in a row's packed number.
+pub fn digit(p: u64, weight: u64) -> u32
+    requires { ⌜ 0 < weight ⌝ }
+    ensures { λ r. ⌜ r ≡ p / weight % 16 ⌝ }
 {
-    (p / unit % 16) as u32
+    (p / weight % 16) as u32
 }

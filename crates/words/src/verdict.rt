@@ -1,13 +1,16 @@
 // The verdict on an instruction's parts, for reading and writing alike: refusals 6 and 7.
 ghost use mathlib.Core.Path.{_≡_};
+ghost use Prim.Native.Nat.{_<_};
 ghost use Rattle.laws.specs.Test.{test};
 ghost use Rattle.words.specs.Parts.{inRange, available};
 ghost use Rattle.words.specs.Kinds.{unsupported};
 ghost use Rattle.words.specs.Codes.{partAt, optionAt};
-ghost use Rattle.words.specs.Packed.{unpack};
+ghost use Rattle.words.specs.Packed.{limitTable, unpack};
 ghost use Rattle.words.specs.Words.{fits};
 use crate::Config;
 use crate::Instruction;
+use crate::codes;
+use crate::layout;
 use crate::rows::digit;
 use crate::rows::flag_digit;
 
@@ -32,36 +35,54 @@ pub fn available_in(c: Config, option: u32) -> bool
     if at < 11 { options[at] } else { false }
 }
 
-// Whether v is in the range of what a part holds.
-fn in_range(c: Config, part: u32, v: u32) -> bool
-    ensures { λ r. ⌜ r ≡ test (inRange c (partAt part) v) ⌝ }
+// What a part stays below, by its number (specs/Codes.antt).
+fn limit_table(c: Config) -> [u32; 16]
+    ensures { λ r. ⌜ r ≡ limitTable c ⌝ }
 {
-    match part {
-        0 => v == 0,
-        1 => v < 2,
-        2 => v < c.regwidth / 8,
-        3 => v < 32,
-        4 => v < c.regsize,
-        5 => v < 64,
-        6 => v < 16,
-        7 => v < 65536,
-        8 => v < c.dmsize,
-        9 => v < c.dmsize,
-        10 => v < 8388608,
-        11 => (v < 16) & (!(c.alulevel == 0) | (v == 1)),
-        12 => v < 65536,
-        _ => v < 256,
-    }
+    [
+        1,
+        2,
+        c.regwidth / 8,
+        32,
+        c.regsize,
+        64,
+        16,
+        layout::LOWER_VALUES,
+        c.dmsize,
+        c.dmsize,
+        layout::TARGETS,
+        16,
+        layout::LOWER_VALUES,
+        256,
+        256,
+        256,
+    ]
 }
 
-// Whether each part is in the range that the row, packed in p, gives it.
+// Whether v is in the range of what a part holds: below its limit; and at level 0 a shift is by 1.
+fn in_range(c: Config, limits: &[u32; 16], part: u32, v: u32) -> bool
+    requires { ⌜ (now limits ≡ limitTable c) × (part < 16) ⌝ }
+    ensures { λ r. ⌜ r ≡ test (inRange c (partAt part) v) ⌝ }
+{
+    let at = part as usize;
+    (!((part == codes::COUNT) & (c.alulevel == 0)) | (v == 1)) & (v < limits[at])
+}
+
+// Whether each part is in the range that the row, packed in p, gives it. In the rows only a value
+// is a shift count: where the compiler sees the rows, it leaves that test out for the other parts.
 pub fn parts_fit(c: Config, p: u64, i: Instruction) -> bool
     ensures { λ r. ⌜ r ≡ test (fits c (unpack 0 p unsupported) i) ⌝ }
 {
-    let flag = in_range(c, flag_digit(p), i.flag);
-    let number = in_range(c, digit(p, 0x10), i.number);
-    let destination = in_range(c, digit(p, 0x100), i.destination);
-    let source = in_range(c, digit(p, 0x1000), i.source);
-    let value = in_range(c, digit(p, 0x10000), i.value);
+    let limits = limit_table(c);
+    let flag = in_range(c, &limits, flag_digit(p), i.flag);
+    let number = in_range(c, &limits, digit(p, codes::NUMBER_DIGIT), i.number);
+    let destination = in_range(
+        c,
+        &limits,
+        digit(p, codes::DESTINATION_DIGIT),
+        i.destination,
+    );
+    let source = in_range(c, &limits, digit(p, codes::SOURCE_DIGIT), i.source);
+    let value = in_range(c, &limits, digit(p, codes::VALUE_DIGIT), i.value);
     flag & (number & (destination & (source & value)))
 }

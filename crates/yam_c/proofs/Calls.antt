@@ -1,5 +1,5 @@
 -- What the calls over a lower crate's call answer and leave, where that one's answer is known. Assumes nothing.
-use mathlib.Core.Path.{_≡_, refl, sym, ap, _∙_}
+use mathlib.Core.Path.{_≡_, ap}
 use mathlib.Core.List.{List, [], _∷_}
 use Prim.Native.Nat.{ℕ}
 use borrow.Author.Tests.{eq-eqb, ne-eqb}
@@ -7,7 +7,7 @@ use lib.Dec.{eqb, ltb}
 use lib.ListN.{length}
 use Rattle.laws.specs.Choice.{pick}
 use Rattle.state.specs.Step.{Outcome}
-use Rattle.machine.specs.Turns.{End}
+use Rattle.machine.specs.Stepping.{End}
 use Rattle.certificate.specs.declared.Checked.{Checked}
 use Rattle.certificate.specs.declared.Checked.the-variants as checked
 use Rattle.certificate.specs.Answers.{answerOf}

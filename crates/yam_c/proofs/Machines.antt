@@ -1,10 +1,10 @@
 -- A machine's words, part by part. Assumes nothing.
-use mathlib.Core.Path.{_≡_, refl, sym, ap, _∙_}
+use mathlib.Core.Path.{_≡_, sym, _∙_}
 use mathlib.Core.Bool.{Bool, true, false}
-use mathlib.Core.List.{List, [], _∷_, _++_}
-use Prim.Native.Nat.{ℕ, _+_, _≤_}
+use mathlib.Core.List.{List, _++_}
+use Prim.Native.Nat.{ℕ, _+_}
 use native.Mathlib.Omega.{arith}
-use lib.ListN.{length, take, drop, replicate, length-take, length-drop}
+use lib.ListN.{length, take, drop, replicate, length-drop}
 use lib.Seq.{length-take-le}
 use Rattle.state.specs.declared.Core.{Core}
 use Rattle.state.specs.declared.Machine.{Machine}
@@ -12,7 +12,7 @@ use Rattle.laws.specs.Choice.{pick, true-is}
 use Rattle.laws.specs.Test.{test, holds}
 use Rattle.state.specs.State.{resetMachine}
 use Rattle.state.specs.Cores.{at}
-use Rattle.yam_c.specs.Flat.{stored, coreWords, machineWords, coreIn, stackIn, outside, shaped, machineOf, updated}
+use Rattle.yam_c.specs.Flat.{stored, coreWords, machineWords, coreIn, stackIn, shaped, machineOf, updated}
 use Rattle.yam_c.proofs.Storing.{stored-append, stored-all}
 
 -- core, stack and zeros, one after the other

@@ -1,18 +1,14 @@
 -- Laws of numbers stored one after the other. Assumes nothing.
-use mathlib.Core.Path.{_≡_, refl, sym, ap, _∙_}
-use mathlib.Core.List.{List, [], _∷_, _++_, append-nil}
-use Prim.Native.Nat.{ℕ, suc, _+_, _-_, _<_, _≤_}
+use mathlib.Core.Path.{_≡_, _∙_}
+use mathlib.Core.List.{List, [], _++_, append-nil}
+use Prim.Native.Nat.{ℕ, _+_, _-_, _<_, _≤_}
 use native.Mathlib.Nat.{add-zero, zero-add, add-suc}
 use native.Mathlib.Numerals.{add-one}
 use native.Mathlib.Omega.{arith}
-use lib.ListN.{length, getD, set, take, drop, drop-of-length-le, length-drop}
-use lib.Seq.{sets, length-sets, sets-eq, drop-cons}
+use lib.ListN.{length, getD, set, drop, drop-of-length-le}
+use lib.Seq.{sets-eq, drop-cons}
 use Rattle.image.proofs.Lists.{sets-append}
 use Rattle.yam_c.specs.Flat.{stored}
-
-pub stored-length : (l : List ℕ) (at : ℕ) (vs : List ℕ) → length (stored l at vs) ≡ length l
-unfolding stored
-stored-length l at vs = length-sets l at vs
 
 -- before the first of them, at one of them, and after the last
 pub stored-first : (l : List ℕ) (at : ℕ) (vs : List ℕ) → stored l (at + 0) (drop 0 vs) ≡ stored l at vs

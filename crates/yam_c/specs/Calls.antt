@@ -9,7 +9,7 @@ use Rattle.words.specs.Words.{Read, Written, readOf, writeOf}
 use Rattle.state.specs.State.{State, env, resetMachine}
 use Rattle.state.specs.Step.{Outcome, stepOf}
 use Rattle.state.specs.Run as Run
-use Rattle.machine.specs.Turns.{End, endOf, machineState}
+use Rattle.machine.specs.Stepping.{End, endOf, machineState}
 use Rattle.rules.specs.Check.{Answer, checkOf}
 use Rattle.text.specs.Texts.{Text, textCall}
 use Rattle.text.specs.Lines.{Listing, listOf}

@@ -1,6 +1,6 @@
 -- `arith::immediate` meets its contract, form by form. Assumes nothing.
 use Prim.Native.Nat.{_%_}
-use mathlib.Core.Path.{sym, ap, _∙_}
+use mathlib.Core.Path.{_∙_}
 use native.Mathlib.Omega.{arith}
 use Rattle.arith.proofs.immediates.Laws.{signed-cut, unsigned-cut}
 use borrow.Author.Needs.{needs}

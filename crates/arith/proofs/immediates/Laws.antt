@@ -5,7 +5,7 @@ use mathlib.Core.Path.{_≡_, refl}
 use native.Mathlib.Omega.{arith}
 use lib.Dec.{leb, eqb}
 use Rattle.laws.specs.Choice.{pick, either}
-use Rattle.arith.specs.declared.Form.the-variants.{Signed, Unsigned}
+use Rattle.words.specs.declared.Form.the-variants.{Signed, Unsigned}
 use Rattle.arith.specs.Width.{bits}
 use Rattle.arith.specs.Immediates.{extendOf, immediateOf}
 

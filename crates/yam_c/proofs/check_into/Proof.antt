@@ -1,5 +1,4 @@
 -- `yam_c::check_into` meets its contract. Assumes nothing.
-use mathlib.Core.Path.{_≡_, refl, sym, ap, _∙_}
 use Rattle.yam_c.proofs.Calls.{check-passed, check-unlawful, check-misfit, check-broken}
 use borrow.Author.Needs.{needs}
 use Rattle.yam_c.proofs.check_into.Statement.{statement}

@@ -1,5 +1,4 @@
 -- `yam_c::read_into` meets its contract. Assumes nothing.
-use mathlib.Core.Path.{_≡_, refl, sym, ap, _∙_}
 use Rattle.yam_c.proofs.Words.{read-refused, read-misfit, read-word}
 use borrow.Author.Needs.{needs}
 use Rattle.yam_c.proofs.read_into.Statement.{statement}

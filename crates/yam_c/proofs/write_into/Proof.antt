@@ -1,9 +1,6 @@
 -- `yam_c::write_into` meets its contract. Assumes nothing.
-use mathlib.Core.Path.{_≡_, refl, sym, ap, _∙_}
 use Rattle.yam_c.proofs.Words.{write-refused, written-word}
 -- `yam_c::write_into` meets its contract. Assumes nothing.
-use Rattle.words.specs.Answers.{writingOf}
-use Rattle.yam_c.specs.Calls.{writeLeft}
 use borrow.Author.Needs.{needs}
 use Rattle.yam_c.proofs.write_into.Statement.{statement}
 use Rattle.yam_c.proofs.write_into.Tie as tie

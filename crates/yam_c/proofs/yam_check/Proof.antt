@@ -1,5 +1,5 @@
 -- `yam_c::yam_check` meets its contract. Assumes nothing.
-use mathlib.Core.Path.{_≡_, refl, sym, ap, _∙_}
+use mathlib.Core.Path.{_∙_}
 use borrow.Author.Needs.{needs}
 use Rattle.yam_c.proofs.yam_check.Statement.{statement}
 use Rattle.yam_c.proofs.yam_check.Tie as tie

@@ -1,5 +1,4 @@
 -- `yam_c::yam_load` meets its contract. Assumes nothing.
-use mathlib.Core.Path.{_≡_, refl, sym, ap, _∙_}
 use Rattle.yam_c.proofs.Calls.{load-misfit, load-refused, load-passed}
 use borrow.Author.Needs.{needs}
 use Rattle.yam_c.proofs.yam_load.Statement.{statement}

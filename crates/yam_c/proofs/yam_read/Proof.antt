@@ -1,5 +1,5 @@
 -- `yam_c::yam_read` meets its contract. Assumes nothing.
-use mathlib.Core.Path.{_≡_, refl, sym, ap, _∙_}
+use mathlib.Core.Path.{_∙_}
 use borrow.Author.Needs.{needs}
 use Rattle.yam_c.proofs.yam_read.Statement.{statement}
 use Rattle.yam_c.proofs.yam_read.Tie as tie

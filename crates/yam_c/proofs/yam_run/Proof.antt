@@ -1,5 +1,4 @@
 -- `yam_c::yam_run` meets its contract. Assumes nothing.
-use mathlib.Core.Path.{_≡_, refl, sym, ap, _∙_}
 use Rattle.yam_c.proofs.Calls.{run-done}
 use borrow.Author.Needs.{needs}
 use Rattle.yam_c.proofs.yam_run.Statement.{statement}

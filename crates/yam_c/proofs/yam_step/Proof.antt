@@ -1,5 +1,4 @@
 -- `yam_c::yam_step` meets its contract. Assumes nothing.
-use mathlib.Core.Path.{_≡_, refl, sym, ap, _∙_}
 use Rattle.yam_c.proofs.Calls.{step-done}
 use borrow.Author.Needs.{needs}
 use Rattle.yam_c.proofs.yam_step.Statement.{statement}

@@ -1,5 +1,5 @@
 -- `yam_c::yam_store` meets its contract. Assumes nothing.
-use mathlib.Core.Path.{_≡_, refl, sym, ap, _∙_}
+use mathlib.Core.Path.{ap}
 use Rattle.yam_c.specs.Calls.{storeLeft}
 use borrow.Author.Needs.{needs}
 use Rattle.yam_c.proofs.yam_store.Statement.{statement}

@@ -1,6 +1,5 @@
 -- `arith::immediates::sign_extended` meets its contract. Assumes nothing.
 use native.Mathlib.Omega.{arith}
-use Rattle.laws.specs.Choice.{pick}
 use Rattle.arith.specs.Immediates.{extendOf}
 use Rattle.arith.proofs.sums.Laws.{signed-code}
 use borrow.Author.Needs.{needs}

@@ -1,6 +1,6 @@
 -- `certificate::reading::exact_look` meets its contract. Assumes nothing.
-use Rattle.certificate.proofs.Looking.{read-here, refused-parts, decoded-parts}
-use Rattle.words.proofs.Lent.{facts-in}
+use Rattle.certificate.proofs.reading.Laws.{read-here, refused-parts, decoded-parts}
+use Rattle.words.proofs.Packed.{facts-in}
 use borrow.Author.Needs.{needs}
 use Rattle.certificate.proofs.reading.exact_look.Statement.{statement}
 use Rattle.certificate.proofs.reading.exact_look.Tie as tie

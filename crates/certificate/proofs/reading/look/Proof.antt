@@ -1,7 +1,7 @@
 -- `certificate::reading::look` meets its contract. Assumes nothing.
 use mathlib.Core.Path.{sym, _∙_}
-use Rattle.certificate.proofs.Looking.{decoded-parts}
-use Rattle.words.proofs.Lent.{facts-in}
+use Rattle.certificate.proofs.reading.Laws.{decoded-parts}
+use Rattle.words.proofs.Packed.{facts-in}
 use Rattle.words.proofs.Quick.{quick-lent}
 use borrow.Author.Needs.{needs}
 use Rattle.certificate.proofs.reading.look.Statement.{statement}

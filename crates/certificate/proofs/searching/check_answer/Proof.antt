@@ -7,7 +7,7 @@ use lib.ListN.{length}
 use Rattle.words.specs.Configs.{lawful}
 use Rattle.rules.specs.Check.{sized}
 use Rattle.certificate.specs.Answers.{answerOf}
-use Rattle.certificate.proofs.Search.{unlawful, unsized, searched}
+use Rattle.certificate.proofs.searching.Laws.{unlawful, unsized, searched}
 use borrow.Author.Needs.{needs}
 use Rattle.certificate.proofs.searching.check_answer.Statement.{statement}
 use Rattle.certificate.proofs.searching.check_answer.Tie as tie

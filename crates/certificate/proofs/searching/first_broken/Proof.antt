@@ -6,7 +6,7 @@ use borrow.Author.Needs.{needs}
 use Rattle.rules.specs.Marks.{markAt, levelOf}
 use Rattle.rules.specs.Check.{passed, lowest, firstBroken}
 use Rattle.certificate.specs.Answers.{answerOf}
-use Rattle.certificate.proofs.Search.{left-at, begins, goes-on, stops, passes}
+use Rattle.certificate.proofs.searching.Laws.{left-at, begins, goes-on, stops, passes}
 use Rattle.certificate.proofs.searching.first_broken.Statement.{statement}
 use Rattle.certificate.proofs.searching.first_broken.Tie as tie
 

@@ -1,6 +1,6 @@
 -- `certificate::searching::rule_8` meets its contract. Assumes nothing.
 use borrow.Author.Tests.{not-true, not-false}
-use Rattle.certificate.proofs.Ruling.{no-output, output-then}
+use Rattle.certificate.proofs.judging.Laws.{no-output, output-then}
 use borrow.Author.Needs.{needs}
 use Rattle.certificate.proofs.searching.rule_8.Statement.{statement}
 use Rattle.certificate.proofs.searching.rule_8.Tie as tie

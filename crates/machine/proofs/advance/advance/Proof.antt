@@ -1,11 +1,11 @@
 -- `machine::advance::advance` meets its contract. Assumes nothing.
 use borrow.Author.Tests.{not-true, not-false}
-use mathlib.Core.Path.{refl, sym, _∙_}
+use mathlib.Core.Path.{refl}
 use mathlib.Core.Bool.{true, false}
 use Rattle.state.specs.State.{env, state}
-use Rattle.machine.proofs.Deciding.{refused-by, landing-here}
-use Rattle.machine.proofs.Looking.{clash}
-use Rattle.machine.proofs.Going.{committed}
+use Rattle.machine.proofs.advance.Laws.{refused-by, landing-here}
+use Rattle.machine.proofs.Lookup.{clash}
+use Rattle.machine.proofs.stepping.Laws.{committed}
 use borrow.Author.Needs.{needs}
 use Rattle.machine.proofs.advance.advance.Statement.{statement}
 use Rattle.machine.proofs.advance.advance.Tie as tie

@@ -3,7 +3,7 @@ use native.Mathlib.Omega.{arith}
 use Prim.Native.Nat.{_%_}
 use mathlib.Core.Path.{ap, _∙_}
 use lib.ListN.{length}
-use Rattle.words.proofs.Found.{masks-length, mask-at}
+use Rattle.words.proofs.Finding.{masks-length, mask-at}
 use borrow.Author.Needs.{needs}
 use Rattle.machine.proofs.advance.below_limits.Statement.{statement}
 use Rattle.machine.proofs.advance.below_limits.Tie as tie

@@ -3,7 +3,7 @@ use native.Mathlib.Omega.{arith}
 use Prim.Native.Nat.{_%_}
 use mathlib.Core.Path.{ap, _∙_}
 use lib.ListN.{length}
-use Rattle.words.proofs.Found.{costs-length, cost-at}
+use Rattle.words.proofs.Finding.{costs-length, cost-at}
 use borrow.Author.Needs.{needs}
 use Rattle.machine.proofs.advance.cycles_of.Statement.{statement}
 use Rattle.machine.proofs.advance.cycles_of.Tie as tie

@@ -4,9 +4,9 @@ use borrow.Author.Tests.{not-true, not-false}
 use mathlib.Core.Path.{refl, sym, ap, _∙_}
 use mathlib.Core.Bool.{false}
 use Rattle.state.specs.State.{env, state}
-use Rattle.machine.specs.Act.{verdictOf}
-use Rattle.machine.proofs.Deciding.{outside, ready, sums-fit}
-use Rattle.machine.proofs.Looking.{clash, acted-here, waited-here, halted}
+use Rattle.machine.specs.Exec.{verdictOf}
+use Rattle.machine.proofs.advance.Laws.{outside, ready, sums-fit}
+use Rattle.machine.proofs.Lookup.{clash, acted-here, waited-here, halted}
 use borrow.Author.Needs.{needs}
 use Rattle.machine.proofs.advance.decide.Statement.{statement}
 use Rattle.machine.proofs.advance.decide.Tie as tie

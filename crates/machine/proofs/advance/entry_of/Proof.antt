@@ -3,8 +3,8 @@ use native.Mathlib.Omega.{arith}
 use Prim.Native.Nat.{_/_, _%_}
 use mathlib.Core.Path.{refl, sym, ap, _∙_}
 use lib.ListN.{length}
-use Rattle.words.proofs.Found.{keys-length, fields-length, key-at, key-direct}
-use Rattle.machine.proofs.Looking.{field-entry}
+use Rattle.words.proofs.Finding.{keys-length, fields-length, key-at, key-direct}
+use Rattle.machine.proofs.Lookup.{field-entry}
 use borrow.Author.Needs.{needs}
 use Rattle.machine.proofs.advance.entry_of.Statement.{statement}
 use Rattle.machine.proofs.advance.entry_of.Tie as tie

@@ -2,7 +2,7 @@
 use mathlib.Core.Path.{ap, _∙_}
 use borrow.Author.Tests.{lt-ltb, le-ltb}
 use Rattle.laws.specs.Choice.{pick}
-use Rattle.machine.specs.Act.{verdictOf}
+use Rattle.machine.specs.Exec.{verdictOf}
 use borrow.Author.Needs.{needs}
 use Rattle.machine.proofs.advance.exact_number.Statement.{statement}
 use Rattle.machine.proofs.advance.exact_number.Tie as tie

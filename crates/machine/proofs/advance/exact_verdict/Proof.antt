@@ -1,11 +1,10 @@
 -- `machine::advance::exact_verdict` meets its contract. Assumes nothing.
 use native.Mathlib.Omega.{arith}
-use borrow.Author.Tests.{not-true, not-false}
 use mathlib.Core.Path.{sym, ap, _∙_}
 use Rattle.laws.specs.Choice.{pick}
 use Rattle.words.specs.Answers.{readingOf}
-use Rattle.words.proofs.Lent.{facts-in, read-lent}
-use Rattle.machine.proofs.Looking.{refused-verdict, read-verdict}
+use Rattle.words.proofs.Packed.{facts-in, read-lent}
+use Rattle.machine.proofs.Lookup.{refused-verdict, read-verdict}
 use borrow.Author.Needs.{needs}
 use Rattle.machine.proofs.advance.exact_verdict.Statement.{statement}
 use Rattle.machine.proofs.advance.exact_verdict.Tie as tie

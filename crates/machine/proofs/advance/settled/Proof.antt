@@ -2,7 +2,7 @@
 use native.Mathlib.Omega.{arith}
 use mathlib.Core.Path.{refl, sym, _∙_}
 use mathlib.Core.Bool.{false}
-use Rattle.machine.proofs.Looking.{clash, quick-below}
+use Rattle.machine.proofs.Lookup.{clash, quick-below}
 use borrow.Author.Needs.{needs}
 use Rattle.machine.proofs.advance.settled.Statement.{statement}
 use Rattle.machine.proofs.advance.settled.Tie as tie

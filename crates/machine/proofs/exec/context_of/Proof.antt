@@ -4,9 +4,29 @@ use Rattle.state.specs.Plans.{contextOf}
 use Rattle.machine.proofs.exec.context_of.Statement.{statement}
 use Rattle.machine.proofs.exec.context_of.Tie as tie
 
+cast-bank : tie.Need-cast-bank
+unfolding contextOf
+cast-bank c = omega arith
+
+cast-n : tie.Need-cast-n
+unfolding contextOf
+cast-n c = omega arith
+
+cast-z : tie.Need-cast-z
+unfolding contextOf
+cast-z c = omega arith
+
+cast-imask : tie.Need-cast-imask
+unfolding contextOf
+cast-imask c = omega arith
+
 add-back : tie.Need-add-back
 unfolding contextOf
 add-back c = omega arith
+
+cast-back : tie.Need-cast-back
+unfolding contextOf
+cast-back c = omega arith
 
 mul-result : tie.Need-mul-result
 unfolding contextOf
@@ -40,10 +60,6 @@ add-result-4 : tie.Need-add-result-4
 unfolding contextOf
 add-result-4 c = omega arith
 
-cast-result : tie.Need-cast-result
-unfolding contextOf
-cast-result c = omega arith
-
 returns : tie.Need-returns
 unfolding contextOf
 returns c = omega arith
@@ -52,7 +68,12 @@ pub context-of-spec : {M : Type 1} → statement M
 context-of-spec =
     tie.close
     (tie.spec
+    cast-bank
+    cast-n
+    cast-z
+    cast-imask
     add-back
+    cast-back
     mul-result
     mul-result-2
     add-result
@@ -61,5 +82,4 @@ context-of-spec =
     mul-result-4
     add-result-3
     add-result-4
-    cast-result
     returns)

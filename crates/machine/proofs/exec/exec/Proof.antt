@@ -4,10 +4,10 @@ use mathlib.Core.Path.{refl, ap}
 use Rattle.words.specs.Actions.{actions}
 use Rattle.words.specs.Lookup.{actionAt}
 use Rattle.words.proofs.Lookup.{land-size}
-use Rattle.arith.specs.declared.Operation.the-variants.{Bst, Bld, Blds}
-use Rattle.state.proofs.Good.{bounds}
+use Rattle.words.specs.declared.Operation.the-variants.{Bst, Bld, Blds}
+use Rattle.state.proofs.Ranges.{bounds}
 use Rattle.plans.proofs.Operands.{above}
-use Rattle.machine.proofs.Acting.{past-actions, agreed, branch-is, branch-register-is, bytes-source, call-is, call-register-is, comparing-immediate, comparing-source, computing-count, computing-immediate, computing-source, constant-immediate, enter-bank-is, enter-special-is, index-load-is, index-store-is, jump-is, jump-register-is, leave-bank-is, leave-special-is, load-direct-is, load-index-is, load-register-is, move-is, multiply-immediate, multiply-source, port-modify-is, port-read-is, port-write-immediate, port-write-source, return-constant-is, return-is, store-direct-is, store-register-is, unsupported-is}
+use Rattle.machine.proofs.exec.Laws.{past-actions, agreed, branch-is, branch-register-is, bytes-source, call-is, call-register-is, comparing-immediate, comparing-source, computing-count, computing-immediate, computing-source, constant-immediate, enter-bank-is, enter-special-is, index-load-is, index-store-is, jump-is, jump-register-is, leave-bank-is, leave-special-is, load-direct-is, load-index-is, load-register-is, move-is, multiply-immediate, multiply-source, port-modify-is, port-read-is, port-write-immediate, port-write-source, return-constant-is, return-is, store-direct-is, store-register-is, unsupported-is}
 use borrow.Author.Needs.{needs}
 use Rattle.machine.proofs.exec.exec.Statement.{statement}
 use Rattle.machine.proofs.exec.exec.Tie as tie
@@ -547,7 +547,7 @@ returns-44 c = record { acts = λ i p small. constant-immediate _ i _ _ 43 (c .b
 
 returns-45 : tie.Need-returns-45
 unfolding actionAt actions
-returns-45 c = record { acts = λ i p small. load-register-is _ i _ _ 44 (c .before .before .before .match .keys45) p small (c .before .before .place35 .ensures) refl (c .before .register65 .ensures) refl tt tt (c .before .before .before .before .before .before .before .before .before .pre .2) (c .load .ensures) }
+returns-45 c = record { acts = λ i p small. load-register-is _ i _ _ 44 (c .before .before .before .match .keys45) p small (c .before .before .place35 .ensures) refl (c .before .register65 .ensures) refl tt tt (c .before .before .before .before .before .before .before .before .before .pre .2) (c .load-register .ensures) }
 
 returns-46 : tie.Need-returns-46
 unfolding actionAt actions
@@ -555,7 +555,7 @@ returns-46 c = record { acts = λ i p small. load-direct-is _ i _ _ 45 (c .befor
 
 returns-47 : tie.Need-returns-47
 unfolding actionAt actions
-returns-47 c = record { acts = λ i p small. store-register-is _ i _ _ 46 (c .before .before .before .match .keys47) p small refl (c .before .before .register66 .ensures) (c .before .register67 .ensures) refl tt tt (c .store .ensures) }
+returns-47 c = record { acts = λ i p small. store-register-is _ i _ _ 46 (c .before .before .before .match .keys47) p small refl (c .before .before .register66 .ensures) (c .before .register67 .ensures) refl tt tt (c .store-register .ensures) }
 
 returns-48 : tie.Need-returns-48
 unfolding actionAt actions

@@ -1,7 +1,7 @@
 -- `machine::exec::moved_value` meets its contract. Assumes nothing.
 use Rattle.laws.specs.Choice.{pick}
-use borrow.Author.Tests.{lt-ltb, le-ltb, le-leb, lt-leb, eq-eqb, ne-eqb, not-true, not-false}
-use Rattle.machine.specs.Act.{movedValue}
+use borrow.Author.Tests.{eq-eqb, ne-eqb}
+use Rattle.machine.specs.Exec.{movedValue}
 use borrow.Author.Needs.{needs}
 use Rattle.machine.proofs.exec.moved_value.Statement.{statement}
 use Rattle.machine.proofs.exec.moved_value.Tie as tie

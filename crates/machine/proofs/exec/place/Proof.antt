@@ -1,9 +1,9 @@
 -- `machine::exec::place` meets its contract. Assumes nothing.
 use native.Mathlib.Omega.{arith}
-use mathlib.Core.Path.{ap, _∙_}
+use mathlib.Core.Path.{ap}
 use Rattle.words.proofs.Lookup.{land-size}
-use Rattle.state.proofs.Good.{bounds}
-use Prim.Native.Nat.{_+_, _%_}
+use Rattle.state.proofs.Ranges.{bounds}
+use Prim.Native.Nat.{_+_}
 use native.Mathlib.Nat.{mod-lt}
 use Rattle.machine.proofs.exec.place.Statement.{statement}
 use Rattle.machine.proofs.exec.place.Tie as tie

@@ -3,8 +3,7 @@ use native.Mathlib.Omega.{arith}
 use native.Mathlib.Nat.{mod-lt}
 use mathlib.Core.Path.{ap, _∙_}
 use lib.ListN.{getD}
-use Rattle.state.proofs.Good.{bounds}
-use borrow.Author.Needs.{needs}
+use Rattle.state.proofs.Ranges.{bounds}
 use Rattle.machine.proofs.exec.register.Statement.{statement}
 use Rattle.machine.proofs.exec.register.Tie as tie
 

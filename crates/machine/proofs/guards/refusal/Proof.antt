@@ -1,7 +1,7 @@
 -- `machine::guards::refusal` meets its contract. Assumes nothing.
 use mathlib.Core.Path.{sym, _∙_}
 use Rattle.laws.specs.Choice.{pick}
-use borrow.Author.Tests.{lt-ltb, le-ltb, le-leb, lt-leb, eq-eqb, ne-eqb, not-true, not-false}
+use borrow.Author.Tests.{not-true, not-false}
 use Rattle.state.specs.Ranges.{inRanges, guards}
 use borrow.Author.Needs.{needs}
 use Rattle.machine.proofs.guards.refusal.Statement.{statement}

@@ -1,6 +1,6 @@
 -- `machine::guards::sum_within` meets its contract. Assumes nothing.
 use native.Mathlib.Omega.{arith}
-use borrow.Author.Tests.{lt-ltb, le-ltb, le-leb, lt-leb, eq-eqb, ne-eqb, not-true, not-false}
+use borrow.Author.Tests.{lt-leb}
 use mathlib.Core.Path.{sym}
 use Prim.Native.Nat.{_+_, _<_}
 use borrow.Author.Needs.{needs}

@@ -5,7 +5,7 @@ use mathlib.Core.Path.{_≡_, refl, sym, _∙_}
 use Prim.Native.Nat.{_-_}
 use lib.ListN.{length, drop}
 use Rattle.laws.specs.Test.{below}
-use Rattle.machine.proofs.Cellwise.{below-further, below-ends, below-done}
+use Rattle.laws.specs.Cells.{below-further, below-ends, below-done}
 use Rattle.machine.proofs.memories.below_from.Statement.{statement}
 use Rattle.machine.proofs.memories.below_from.Tie as tie
 

@@ -1,10 +1,9 @@
 -- `machine::stepping::run` meets its contract. Assumes nothing.
-use native.Mathlib.Omega.{arith}
 use mathlib.Core.Path.{sym, _∙_}
 use Rattle.state.specs.State.{env, state}
-use Rattle.state.proofs.Good.{accepted}
-use Rattle.machine.proofs.Going.{run-refused, run-too-long, run-taken}
-use Rattle.machine.proofs.Kept.{runs}
+use Rattle.state.proofs.Ranges.{accepted}
+use Rattle.machine.proofs.stepping.Laws.{run-refused, run-too-long, run-taken}
+use Rattle.machine.proofs.Claims.{runs}
 use borrow.Author.Needs.{needs}
 use Rattle.machine.proofs.stepping.run.Statement.{statement}
 use Rattle.machine.proofs.stepping.run.Tie as tie

@@ -1,7 +1,5 @@
 -- `machine::stepping::share` meets its contract. Assumes nothing.
-use mathlib.Core.Path.{sym}
 use Rattle.laws.specs.Choice.{pick}
-use borrow.Author.Needs.{needs}
 use Rattle.machine.proofs.stepping.share.Statement.{statement}
 use Rattle.machine.proofs.stepping.share.Tie as tie
 

@@ -2,9 +2,9 @@
 use native.Mathlib.Omega.{arith}
 use mathlib.Core.Path.{sym, _∙_}
 use Rattle.state.specs.State.{env, state}
-use Rattle.state.proofs.Good.{accepted}
-use Rattle.machine.proofs.Going.{step-refused, one-step, step-taken}
-use Rattle.machine.proofs.Kept.{steps}
+use Rattle.state.proofs.Ranges.{accepted}
+use Rattle.machine.proofs.stepping.Laws.{step-refused, one-step, step-taken}
+use Rattle.machine.proofs.Claims.{steps}
 use borrow.Author.Needs.{needs}
 use Rattle.machine.proofs.stepping.step.Statement.{statement}
 use Rattle.machine.proofs.stepping.step.Tie as tie

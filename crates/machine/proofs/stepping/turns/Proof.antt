@@ -5,10 +5,10 @@ use mathlib.Core.Path.{_≡_, refl, _∙_}
 use mathlib.Core.Bool.{true, false}
 use Rattle.laws.specs.Choice.{pick}
 use Rattle.state.specs.State.{env, state}
-use Rattle.machine.specs.Act.{Ready}
-use Rattle.machine.specs.Stretches.{Reached}
-use Rattle.machine.proofs.Looking.{clash, exact-stop, exact-ready}
-use Rattle.machine.proofs.Going.{reached-start, reached-stop, reached-done, reached-join, share-most, share-one, share-less, share-open, open-untrusted}
+use Rattle.machine.specs.Exec.{Ready}
+use Rattle.machine.specs.Stretching.{Reached}
+use Rattle.machine.proofs.Lookup.{clash, exact-stop, exact-ready}
+use Rattle.machine.proofs.stepping.Laws.{reached-start, reached-stop, reached-done, reached-join, share-most, share-one, share-less, share-open, open-untrusted}
 use borrow.Author.Needs.{needs}
 use Rattle.machine.proofs.stepping.turns.Statement.{statement}
 use Rattle.machine.proofs.stepping.turns.Tie as tie

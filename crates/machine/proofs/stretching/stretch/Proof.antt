@@ -5,11 +5,10 @@ use Prim.Native.Nat.{_≤_, _<_, _-_}
 use mathlib.Core.Path.{_≡_, _∙_}
 use mathlib.Core.Bool.{true}
 use Rattle.state.specs.State.{env, state}
-use Rattle.machine.specs.Act.{Ready}
-use Rattle.machine.specs.Stretches.{Reached}
-use Rattle.machine.proofs.Looking.{clash}
-use Rattle.machine.proofs.Going.{reached-start, reached-more, more-cycles, came-paused, came-stopped, came-done}
-use borrow.Author.Needs.{needs}
+use Rattle.machine.specs.Exec.{Ready}
+use Rattle.machine.specs.Stretching.{Reached}
+use Rattle.machine.proofs.Lookup.{clash}
+use Rattle.machine.proofs.stepping.Laws.{reached-start, reached-more, more-cycles, came-paused, came-stopped, came-done}
 use Rattle.machine.proofs.stretching.stretch.Statement.{statement}
 use Rattle.machine.proofs.stretching.stretch.Tie as tie
 

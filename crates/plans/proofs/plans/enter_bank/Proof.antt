@@ -1,6 +1,6 @@
 -- `plans::plans::enter_bank` meets its contract. Assumes nothing.
 use Rattle.laws.specs.Choice.{pick}
-use borrow.Author.Tests.{lt-ltb, le-ltb, le-leb, lt-leb, eq-eqb, ne-eqb, not-true, not-false}
+use borrow.Author.Tests.{le-leb, lt-leb}
 use borrow.Author.Needs.{needs}
 use Rattle.plans.proofs.plans.enter_bank.Statement.{statement}
 use Rattle.plans.proofs.plans.enter_bank.Tie as tie

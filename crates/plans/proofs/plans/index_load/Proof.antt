@@ -1,6 +1,6 @@
 -- `plans::plans::index_load` meets its contract. Assumes nothing.
 use Rattle.laws.specs.Choice.{pick}
-use borrow.Author.Tests.{lt-ltb, le-ltb, le-leb, lt-leb, eq-eqb, ne-eqb, not-true, not-false}
+use borrow.Author.Tests.{lt-ltb, le-ltb}
 use borrow.Author.Needs.{needs}
 use Rattle.plans.proofs.plans.index_load.Statement.{statement}
 use Rattle.plans.proofs.plans.index_load.Tie as tie

@@ -1,6 +1,6 @@
 -- `plans::plans::port_modify` meets its contract. Assumes nothing.
 use Rattle.laws.specs.Choice.{pick}
-use borrow.Author.Tests.{lt-ltb, le-ltb, le-leb, lt-leb, eq-eqb, ne-eqb, not-true, not-false}
+use borrow.Author.Tests.{lt-ltb, le-ltb, not-true, not-false}
 use native.Mathlib.Omega.{arith}
 use mathlib.Core.Path.{sym, _∙_}
 use borrow.Author.Needs.{needs}
@@ -24,7 +24,7 @@ add-positioned c = omega (arith, c .before .before .before .before .before .befo
 
 returns-4 : tie.Need-returns-4
 unfolding pick
-returns-4 c = rw (sym (c .before .before .before .before .before .before .before .before .before .before .before .before .before .before .before .near .ensures) ∙ not-false (c .before .before .before .before .before .before .before .before .before .before .before .before .before .before .before .near .result) (c .before .before .before .before .before .before .before .before .before .before .before .before .before .before .if1 .left), lt-ltb _ _ (c .before .before .before .before .before .before .before .before .before .before .before .before .before .if2 .left), lt-ltb _ _ (c .before .before .before .before .before .before .before .before .before .before .before .before .if3 .left), c .change .ensures, c .before .before .before .before .posting .ensures, c .before .before .before .before .before .positioned .ensures, c .before .before .before .before .before .before .next .ensures, c .before .before .before .to .ensures, c .before .before .to2 .ensures, c .before .to3 .ensures, c .before .before .before .before .before .before .before .none .ensures, c .before .before .before .before .before .before .before .before .with-top-bit .ensures, c .before .before .before .before .before .before .before .before .before .cut .ensures, c .before .before .before .before .before .before .before .before .before .before .wide .ensures)
+returns-4 c = rw (sym (c .before .before .before .before .before .before .before .before .before .before .before .before .before .before .before .near .ensures) ∙ not-false (c .before .before .before .before .before .before .before .before .before .before .before .before .before .before .before .near .result) (c .before .before .before .before .before .before .before .before .before .before .before .before .before .before .if1 .left), lt-ltb _ _ (c .before .before .before .before .before .before .before .before .before .before .before .before .before .if2 .left), lt-ltb _ _ (c .before .before .before .before .before .before .before .before .before .before .before .before .if3 .left), c .change .ensures, c .before .before .before .before .posting .ensures, c .before .before .before .before .before .positioned .ensures, c .before .before .before .before .before .before .next .ensures, c .before .before .before .to .ensures, c .before .before .to2 .ensures, c .before .to3 .ensures, c .before .before .before .before .before .before .before .off .ensures, c .before .before .before .before .before .before .before .before .with-top-bit .ensures, c .before .before .before .before .before .before .before .before .before .cut .ensures, c .before .before .before .before .before .before .before .before .before .before .wide .ensures)
 
 pub port-modify-spec : {M : Type 1} → statement M
 port-modify-spec =

@@ -1,7 +1,6 @@
 -- `plans::plans::port_read` meets its contract. Assumes nothing.
 use Rattle.laws.specs.Choice.{pick}
-use borrow.Author.Tests.{lt-ltb, le-ltb, le-leb, lt-leb, eq-eqb, ne-eqb, not-true, not-false}
-use native.Mathlib.Omega.{arith}
+use borrow.Author.Tests.{lt-ltb, le-ltb, not-true, not-false}
 use mathlib.Core.Path.{sym, _∙_}
 use borrow.Author.Needs.{needs}
 use Rattle.plans.proofs.plans.port_read.Statement.{statement}

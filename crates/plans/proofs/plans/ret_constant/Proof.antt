@@ -1,8 +1,7 @@
 -- `plans::plans::ret_constant` meets its contract. Assumes nothing.
 use Rattle.laws.specs.Choice.{pick}
-use borrow.Author.Tests.{lt-ltb, le-ltb, le-leb, lt-leb, eq-eqb, ne-eqb, not-true, not-false}
+use borrow.Author.Tests.{lt-ltb}
 use native.Mathlib.Omega.{arith}
-use mathlib.Core.Path.{_≡_}
 use Prim.Native.Nat.{_<_}
 use borrow.Author.Needs.{needs}
 use Rattle.plans.proofs.plans.ret_constant.Statement.{statement}
@@ -14,7 +13,7 @@ returns c = simp (c .before .if1 .taken, c .stopped .ensures)
 
 returns-2 : tie.Need-returns-2
 unfolding pick
-returns-2 c = let h : 0 < c .before .before .before .before .before .before .before .before .args .m .depth = omega arith in simp (lt-ltb _ _ h, c .change .ensures, c .before .before .before .returned .ensures, c .before .before .to .ensures, c .before .to2 .ensures, c .before .before .before .before .none .ensures, c .before .before .before .before .before .immediate .ensures)
+returns-2 c = let h : 0 < c .before .before .before .before .before .before .before .before .args .m .depth = omega arith in simp (lt-ltb _ _ h, c .change .ensures, c .before .before .before .returned .ensures, c .before .before .to .ensures, c .before .to2 .ensures, c .before .before .before .before .off .ensures, c .before .before .before .before .before .immediate .ensures)
 
 pub ret-constant-spec : {M : Type 1} → statement M
 ret-constant-spec =

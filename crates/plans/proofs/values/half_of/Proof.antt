@@ -1,7 +1,7 @@
 -- `plans::values::half_of` meets its contract. Assumes nothing.
 use native.Mathlib.Omega.{arith}
 use Rattle.laws.specs.Choice.{pick}
-use borrow.Author.Tests.{lt-ltb, le-ltb, le-leb, lt-leb, eq-eqb, ne-eqb, not-true, not-false}
+use borrow.Author.Tests.{ne-eqb}
 use Rattle.arith.specs.Width.{bits}
 use Rattle.plans.proofs.values.half_of.Statement.{statement}
 use Rattle.plans.proofs.values.half_of.Tie as tie

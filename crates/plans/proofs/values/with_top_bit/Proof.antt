@@ -1,7 +1,7 @@
 -- `plans::values::with_top_bit` meets its contract. Assumes nothing.
 use native.Mathlib.Omega.{arith}
 use Rattle.laws.specs.Choice.{pick}
-use borrow.Author.Tests.{lt-ltb, le-ltb, le-leb, lt-leb, eq-eqb, ne-eqb, not-true, not-false}
+use borrow.Author.Tests.{le-leb, lt-leb}
 use Rattle.state.specs.Plans.{withTopBit}
 use borrow.Author.Needs.{needs}
 use Rattle.plans.proofs.values.with_top_bit.Statement.{statement}

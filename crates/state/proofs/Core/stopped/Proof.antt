@@ -4,7 +4,7 @@ use Rattle.state.proofs.Core.stopped.Statement.{statement}
 use Rattle.state.proofs.Core.stopped.Tie as tie
 
 returns : tie.Need-returns
-returns c = rw (c .before .before .before .before .none .ensures, c .before .before .before .none2 .ensures, c .before .before .none3 .ensures, c .before .none4 .ensures, c .none5 .ensures)
+returns c = rw (c .before .before .before .before .off .ensures, c .before .before .before .off2 .ensures, c .before .before .off3 .ensures, c .before .off4 .ensures, c .off5 .ensures)
 
 pub stopped-spec : {M : Type 1} → statement M
 stopped-spec =

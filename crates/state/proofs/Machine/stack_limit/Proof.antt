@@ -1,6 +1,6 @@
 -- `state::Machine::stack_limit` meets its contract. Assumes nothing.
 use Rattle.laws.specs.Choice.{pick}
-use borrow.Author.Tests.{lt-ltb, le-ltb, le-leb, lt-leb, eq-eqb, ne-eqb, not-true, not-false}
+use borrow.Author.Tests.{ne-eqb}
 use Rattle.state.specs.State.{stackLimit}
 use borrow.Author.Needs.{needs}
 use Rattle.state.proofs.Machine.stack_limit.Statement.{statement}

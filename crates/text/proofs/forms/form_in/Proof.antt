@@ -1,5 +1,5 @@
 -- `text::forms::form_in` meets its contract. Assumes nothing.
-use Rattle.text.proofs.Pieces.{last-named, formed}
+use Rattle.text.proofs.forms.Laws.{last-named, formed}
 use borrow.Author.Needs.{needs}
 use Rattle.text.proofs.forms.form_in.Statement.{statement}
 use Rattle.text.proofs.forms.form_in.Tie as tie

@@ -1,6 +1,6 @@
 -- `text::forms::form_len` meets its contract. Assumes nothing.
 use native.Mathlib.Omega.{arith}
-use Rattle.text.proofs.Pieces.{length-form}
+use Rattle.text.proofs.forms.Laws.{length-form}
 use borrow.Author.Needs.{needs}
 use Rattle.text.proofs.forms.form_len.Statement.{statement}
 use Rattle.text.proofs.forms.form_len.Tie as tie

@@ -1,6 +1,6 @@
 -- `text::forms::form_of` meets its contract. Assumes nothing.
 use Rattle.text.specs.Packed.{formLent}
-use Rattle.text.proofs.Pieces.{style-named}
+use Rattle.text.proofs.forms.Laws.{style-named}
 use borrow.Author.Needs.{needs}
 use Rattle.text.proofs.forms.form_of.Statement.{statement}
 use Rattle.text.proofs.forms.form_of.Tie as tie

@@ -1,5 +1,5 @@
 -- `text::forms::last_mark` meets its contract. Assumes nothing.
-use Rattle.text.proofs.Pieces.{last-none, last-there}
+use Rattle.text.proofs.forms.Laws.{last-none, last-there}
 use Rattle.text.proofs.forms.last_mark.Statement.{statement}
 use Rattle.text.proofs.forms.last_mark.Tie as tie
 

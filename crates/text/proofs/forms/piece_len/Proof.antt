@@ -1,6 +1,6 @@
 -- `text::forms::piece_len` meets its contract. Assumes nothing.
 use mathlib.Core.Path.{sym}
-use Rattle.text.proofs.Pieces.{length-piece}
+use Rattle.text.proofs.forms.Laws.{length-piece}
 -- `text::forms::piece_len` meets its contract. Assumes nothing.
 use native.Mathlib.Omega.{arith}
 use borrow.Author.Needs.{needs}

@@ -1,8 +1,8 @@
 -- `text::forms::put_form` meets its contract. Assumes nothing.
 use native.Mathlib.Omega.{arith}
 use Rattle.text.specs.Packed.{formText}
-use Rattle.text.proofs.Writing.{then}
-use Rattle.text.proofs.Pieces.{length-form}
+use Rattle.text.proofs.writers.Laws.{then}
+use Rattle.text.proofs.forms.Laws.{length-form}
 use borrow.Author.Needs.{needs}
 use Rattle.text.proofs.forms.put_form.Statement.{statement}
 use Rattle.text.proofs.forms.put_form.Tie as tie

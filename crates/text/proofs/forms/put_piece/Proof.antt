@@ -1,9 +1,9 @@
 -- `text::forms::put_piece` meets its contract. Assumes nothing.
-use Rattle.text.proofs.Writing.{then, length-spelled}
+use Rattle.text.proofs.writers.Laws.{then, length-spelled}
 -- `text::forms::put_piece` meets its contract. Assumes nothing.
 use native.Mathlib.Omega.{arith}
 use Rattle.text.specs.Packed.{pieceText}
-use Rattle.text.proofs.Pieces.{length-piece}
+use Rattle.text.proofs.forms.Laws.{length-piece}
 use borrow.Author.Needs.{needs}
 use Rattle.text.proofs.forms.put_piece.Statement.{statement}
 use Rattle.text.proofs.forms.put_piece.Tie as tie

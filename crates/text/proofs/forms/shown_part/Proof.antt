@@ -1,5 +1,5 @@
 -- `text::forms::shown_part` meets its contract. Assumes nothing.
-use Rattle.text.proofs.Pieces.{shown-is}
+use Rattle.text.proofs.forms.Laws.{shown-is}
 use borrow.Author.Needs.{needs}
 use Rattle.text.proofs.forms.shown_part.Statement.{statement}
 use Rattle.text.proofs.forms.shown_part.Tie as tie

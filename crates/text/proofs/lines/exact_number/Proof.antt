@@ -1,5 +1,5 @@
 -- `text::lines::exact_number` meets its contract. Assumes nothing.
-use Rattle.text.proofs.Printing.{read-here, refused-number, decoded-number}
+use Rattle.text.proofs.texts.Laws.{read-here, refused-number, decoded-number}
 use borrow.Author.Needs.{needs}
 use Rattle.text.proofs.lines.exact_number.Statement.{statement}
 use Rattle.text.proofs.lines.exact_number.Tie as tie

@@ -1,5 +1,5 @@
 -- `text::lines::long_form` meets its contract. Assumes nothing.
-use Rattle.text.proofs.Printing.{question-23}
+use Rattle.text.proofs.texts.Laws.{question-23}
 use borrow.Author.Needs.{needs}
 use Rattle.text.proofs.lines.long_form.Statement.{statement}
 use Rattle.text.proofs.lines.long_form.Tie as tie

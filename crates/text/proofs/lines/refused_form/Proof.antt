@@ -1,5 +1,5 @@
 -- `text::lines::refused_form` meets its contract. Assumes nothing.
-use Rattle.text.proofs.Printing.{question}
+use Rattle.text.proofs.texts.Laws.{question}
 use borrow.Author.Needs.{needs}
 use Rattle.text.proofs.lines.refused_form.Statement.{statement}
 use Rattle.text.proofs.lines.refused_form.Tie as tie

@@ -3,7 +3,7 @@ use native.Mathlib.Omega.{arith}
 use Rattle.text.specs.Packed.{formText}
 use mathlib.Core.Path.{sym, _∙_}
 use borrow.Author.Tests.{ltb-true, ltb-false}
-use Rattle.text.proofs.Printing.{too-long-shown, shown-whole}
+use Rattle.text.proofs.texts.Laws.{too-long-shown, shown-whole}
 use borrow.Author.Needs.{needs}
 use Rattle.text.proofs.lines.shown_form.Statement.{statement}
 use Rattle.text.proofs.lines.shown_form.Tie as tie

@@ -1,6 +1,6 @@
 -- `text::lines::single` meets its contract. Assumes nothing.
 use mathlib.Core.Path.{refl}
-use Rattle.text.proofs.Printing.{single-text}
+use Rattle.text.proofs.texts.Laws.{single-text}
 use Rattle.text.proofs.lines.single.Statement.{statement}
 use Rattle.text.proofs.lines.single.Tie as tie
 

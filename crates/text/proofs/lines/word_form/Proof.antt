@@ -1,7 +1,7 @@
 -- `text::lines::word_form` meets its contract. Assumes nothing.
 use mathlib.Core.Path.{sym, _∙_}
 use Rattle.words.proofs.Quick.{read-parts}
-use Rattle.text.proofs.Printing.{numbered-word, decoded-word}
+use Rattle.text.proofs.texts.Laws.{numbered-word, decoded-word}
 use borrow.Author.Needs.{needs}
 use Rattle.text.proofs.lines.word_form.Statement.{statement}
 use Rattle.text.proofs.lines.word_form.Tie as tie

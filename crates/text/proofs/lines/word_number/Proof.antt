@@ -1,7 +1,7 @@
 -- `text::lines::word_number` meets its contract. Assumes nothing.
 use mathlib.Core.Path.{refl, sym, _∙_}
 use Rattle.words.proofs.Quick.{quick-lent}
-use Rattle.text.proofs.Printing.{decoded-number}
+use Rattle.text.proofs.texts.Laws.{decoded-number}
 use borrow.Author.Needs.{needs}
 use Rattle.text.proofs.lines.word_number.Statement.{statement}
 use Rattle.text.proofs.lines.word_number.Tie as tie

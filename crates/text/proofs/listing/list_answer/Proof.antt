@@ -1,5 +1,5 @@
 -- `text::listing::list_answer` meets its contract. Assumes nothing.
-use Rattle.text.proofs.Listings.{listed-lawful, refused-list, whole-list}
+use Rattle.text.proofs.listing.Laws.{listed-lawful, refused-list, whole-list}
 use borrow.Author.Needs.{needs}
 use Rattle.text.proofs.listing.list_answer.Statement.{statement}
 use Rattle.text.proofs.listing.list_answer.Tie as tie

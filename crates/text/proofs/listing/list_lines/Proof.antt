@@ -5,8 +5,8 @@ use mathlib.Core.Path.{_≡_, refl, _∙_}
 use lib.ListN.{length}
 use Rattle.text.specs.Packed.{formText}
 use Rattle.text.specs.Lines.{listed}
-use Rattle.text.proofs.Printing.{has-place}
-use Rattle.text.proofs.Listings.{goes-on, stops, ends}
+use Rattle.text.proofs.texts.Laws.{has-place}
+use Rattle.text.proofs.listing.Laws.{goes-on, stops, ends}
 use native.Mathlib.Omega.{arith}
 use Rattle.text.proofs.listing.list_lines.Statement.{statement}
 use Rattle.text.proofs.listing.list_lines.Tie as tie

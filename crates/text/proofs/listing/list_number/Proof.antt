@@ -1,5 +1,5 @@
 -- `text::listing::list_number` meets its contract. Assumes nothing.
-use Rattle.text.proofs.Listings.{number-1, number-2, number-18, number-0}
+use Rattle.text.proofs.listing.Laws.{number-1, number-2, number-18, number-0}
 use borrow.Author.Needs.{needs}
 use Rattle.text.proofs.listing.list_number.Statement.{statement}
 use Rattle.text.proofs.listing.list_number.Tie as tie

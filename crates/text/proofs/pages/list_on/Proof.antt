@@ -52,7 +52,7 @@ use Rattle.text.proofs.Listed as P
 use Rattle.text.proofs.Listed.Laws as P′
 use Rattle.text.proofs.pages.Page as T
 use Rattle.text.proofs.pages.Page.Laws as T′
-use Rattle.text.proofs.Held.{gave, gave-goes}
+use Rattle.text.proofs.pages.Laws.{gave, gave-goes}
 use Rattle.text.proofs.listing.list as list
 use Rattle.text.proofs.listing.list.Symbol as list-def
 use Rattle.text.proofs.listing.list.Symbol.{name as #text·list}

@@ -1,7 +1,7 @@
 -- `text::tables::string_table` meets its contract. Assumes nothing.
 use mathlib.Core.Path.{refl}
 use Rattle.text.specs.Strings.{strings}
-use Rattle.text.specs.Packed.{stringTable, sizeTable}
+use Rattle.text.specs.Packed.{stringTable}
 use Rattle.text.proofs.tables.string_table.Statement.{statement}
 use Rattle.text.proofs.tables.string_table.Tie as tie
 

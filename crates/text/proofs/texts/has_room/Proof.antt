@@ -1,5 +1,5 @@
 -- `text::texts::has_room` meets its contract. Assumes nothing.
-use Rattle.text.proofs.Printing.{no-room, room}
+use Rattle.text.proofs.texts.Laws.{no-room, room}
 use Rattle.text.proofs.texts.has_room.Statement.{statement}
 use Rattle.text.proofs.texts.has_room.Tie as tie
 

@@ -1,7 +1,7 @@
 -- `text::texts::print_text` meets its contract. Assumes nothing.
 use native.Mathlib.Omega.{arith}
 use Rattle.text.specs.Packed.{formText}
-use Rattle.text.proofs.Printing.{fits, not-printed, is-printed}
+use Rattle.text.proofs.texts.Laws.{fits, not-printed, is-printed}
 use borrow.Author.Needs.{needs}
 use Rattle.text.proofs.texts.print_text.Statement.{statement}
 use Rattle.text.proofs.texts.print_text.Tie as tie

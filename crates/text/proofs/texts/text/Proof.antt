@@ -1,5 +1,5 @@
 -- `text::texts::text` meets its contract. Assumes nothing.
-use Rattle.text.proofs.Printing.{read-as, refused-call, decoded-call}
+use Rattle.text.proofs.texts.Laws.{read-as, refused-call, decoded-call}
 use borrow.Author.Needs.{needs}
 use Rattle.text.proofs.texts.text.Statement.{statement}
 use Rattle.text.proofs.texts.text.Tie as tie

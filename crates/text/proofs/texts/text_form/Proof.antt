@@ -1,5 +1,5 @@
 -- `text::texts::text_form` meets its contract. Assumes nothing.
-use Rattle.text.proofs.Pieces.{form-right}
+use Rattle.text.proofs.forms.Laws.{form-right}
 use borrow.Author.Needs.{needs}
 use Rattle.text.proofs.texts.text_form.Statement.{statement}
 use Rattle.text.proofs.texts.text_form.Tie as tie

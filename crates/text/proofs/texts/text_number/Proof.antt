@@ -1,6 +1,5 @@
 -- `text::texts::text_number` meets its contract. Assumes nothing.
-use native.Mathlib.Omega.{arith}
-use Rattle.text.proofs.Printing.{number-18, number-23, number-0}
+use Rattle.text.proofs.texts.Laws.{number-18, number-23, number-0}
 use borrow.Author.Tests.{ltb-true, ltb-false}
 use mathlib.Core.Path.{sym, _∙_}
 use borrow.Author.Needs.{needs}

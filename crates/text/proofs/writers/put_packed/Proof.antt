@@ -3,8 +3,8 @@ use Prim.Native.Nat.{_≤_}
 use mathlib.Core.Path.{_≡_, refl}
 use lib.ListN.{length, length-set}
 use lib.Seq.{sets}
-use Rattle.text.specs.Digits.{spelled, digit}
-use Rattle.text.proofs.Writing.{digit-next, digits-done}
+use Rattle.text.specs.Digits.{spelled}
+use Rattle.text.proofs.writers.Laws.{digit-next, digits-done}
 use native.Mathlib.Omega.{arith}
 use Rattle.text.proofs.writers.put_packed.Statement.{statement}
 use Rattle.text.proofs.writers.put_packed.Tie as tie

@@ -1,5 +1,5 @@
 -- `words::configuration::data_size` meets its contract. Assumes nothing.
-use Rattle.words.proofs.Sizes.{size-right}
+use Rattle.words.proofs.Configs.{size-right}
 use borrow.Author.Needs.{needs}
 use Rattle.words.proofs.configuration.data_size.Statement.{statement}
 use Rattle.words.proofs.configuration.data_size.Tie as tie

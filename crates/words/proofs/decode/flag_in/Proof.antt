@@ -1,6 +1,6 @@
 -- `words::decode::flag_in` meets its contract. Assumes nothing.
 use native.Mathlib.Omega.{arith}
-use Rattle.words.proofs.Coded.{flag-there, flag-absent}
+use Rattle.words.proofs.Parts.{flag-there, flag-absent}
 use borrow.Author.Needs.{needs}
 use Rattle.words.proofs.decode.flag_in.Statement.{statement}
 use Rattle.words.proofs.decode.flag_in.Tie as tie

@@ -1,6 +1,6 @@
 -- `words::decode::judge` meets its contract. Assumes nothing.
 use Rattle.laws.specs.Choice.{pick}
-use borrow.Author.Tests.{lt-ltb, le-ltb, le-leb, lt-leb, eq-eqb, ne-eqb, not-true, not-false}
+use borrow.Author.Tests.{not-true, not-false}
 use Rattle.words.specs.Answers.{refusalNumber, readingOf, judged}
 use Rattle.words.specs.Words.{answered}
 use Rattle.words.proofs.decode.judge.Statement.{statement}

@@ -1,7 +1,7 @@
 -- `words::decode::read_word` meets its contract. Assumes nothing.
 use mathlib.Core.Path.{_∙_, sym}
 use Rattle.words.specs.Answers.{refusalNumber, readingOf}
-use Rattle.words.proofs.Answering.{reads, lawful-read, unlawful-read}
+use Rattle.words.proofs.Answers.{reads, lawful-read, unlawful-read}
 use borrow.Author.Needs.{needs}
 use Rattle.words.proofs.decode.read_word.Statement.{statement}
 use Rattle.words.proofs.decode.read_word.Tie as tie

@@ -1,6 +1,6 @@
 -- `words::decode::read_word_lent` meets its contract. Assumes nothing.
 use mathlib.Core.Path.{_∙_}
-use Rattle.words.proofs.Answering.{by-tables}
+use Rattle.words.proofs.Answers.{by-tables}
 use borrow.Author.Needs.{needs}
 use Rattle.words.proofs.decode.read_word_lent.Statement.{statement}
 use Rattle.words.proofs.decode.read_word_lent.Tie as tie

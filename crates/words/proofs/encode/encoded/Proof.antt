@@ -1,14 +1,11 @@
 -- `words::encode::encoded` meets its contract. Assumes nothing.
-use mathlib.Core.Path.{_≡_, _∙_, sym, ap}
-use borrow.Author.Tests.{lt-ltb, le-ltb, le-leb, lt-leb, eq-eqb, ne-eqb, not-true, not-false}
+use mathlib.Core.Path.{_∙_}
+use borrow.Author.Tests.{lt-ltb, le-ltb, not-true, not-false}
 use Rattle.laws.specs.Choice.{pick}
-use native.Mathlib.Omega.{arith}
 use Rattle.words.specs.Answers.{refusalNumber, writingOf}
-use Rattle.words.specs.Rows.{rowAt}
-use Rattle.words.specs.Words.{gather, written, wordOf, wordFrom, writeLawful, refusals567}
-use Rattle.words.proofs.Answering.{verdict, encodable}
-use Rattle.laws.specs.First.{first-failing}
-use Rattle.words.proofs.Lent.{base-at}
+use Rattle.words.specs.Words.{written, wordOf, writeLawful}
+use Rattle.words.proofs.Answers.{verdict, encodable}
+use Rattle.words.proofs.Packed.{base-at}
 use borrow.Author.Needs.{needs}
 use Rattle.words.proofs.encode.encoded.Statement.{statement}
 use Rattle.words.proofs.encode.encoded.Tie as tie

@@ -1,10 +1,10 @@
 -- `words::encode::write_word` meets its contract. Assumes nothing.
 use mathlib.Core.Path.{_∙_, sym}
 use Rattle.laws.specs.Choice.{true-is}
-use Rattle.laws.specs.Test.{test, holds}
+use Rattle.laws.specs.Test.{holds}
 use Rattle.words.specs.Configs.{lawful}
 use Rattle.words.specs.Answers.{refusalNumber, writingOf}
-use Rattle.words.proofs.Answering.{writes, lawful-write, unlawful-write}
+use Rattle.words.proofs.Answers.{writes, lawful-write, unlawful-write}
 use borrow.Author.Needs.{needs}
 use Rattle.words.proofs.encode.write_word.Statement.{statement}
 use Rattle.words.proofs.encode.write_word.Tie as tie

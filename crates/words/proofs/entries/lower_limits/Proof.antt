@@ -1,8 +1,8 @@
 -- `words::entries::lower_limits` meets its contract. Assumes nothing.
 use native.Mathlib.Nat.{zero-add}
 use Rattle.laws.specs.Choice.{pick}
-use Rattle.words.specs.Codes.{limitOf}
 use Rattle.words.specs.Actions.{checks}
+use Rattle.words.specs.Packed.{limitOf}
 use Rattle.words.specs.Lookup.{checkAt, limitIn, lowerLimit, lowers}
 use borrow.Author.Needs.{needs}
 use Rattle.words.proofs.entries.lower_limits.Statement.{statement}

@@ -2,7 +2,7 @@
 use Prim.Native.Nat.{_-_, _≤_}
 use mathlib.Core.Path.{_≡_, _∙_}
 use native.Mathlib.Omega.{arith}
-use Rattle.words.proofs.Found.{filled, fill-start, fill-next, fill-end}
+use Rattle.words.proofs.Finding.{filled, fill-start, fill-next, fill-end}
 use borrow.Author.Needs.{needs}
 use Rattle.words.proofs.entries.mask_table.Statement.{statement}
 use Rattle.words.proofs.entries.mask_table.Tie as tie

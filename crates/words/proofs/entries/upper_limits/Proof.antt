@@ -3,8 +3,8 @@ use mathlib.Core.Bool.{and-true}
 use native.Mathlib.Nat.{zero-add}
 use Rattle.laws.specs.Choice.{pick}
 use Rattle.words.specs.Parts.{available}
-use Rattle.words.specs.Codes.{limitOf}
 use Rattle.words.specs.Actions.{checks}
+use Rattle.words.specs.Packed.{limitOf}
 use Rattle.words.specs.Lookup.{checkAt, limitIn, upperLimit, uppers}
 use borrow.Author.Needs.{needs}
 use Rattle.words.proofs.entries.upper_limits.Statement.{statement}

@@ -1,6 +1,5 @@
 -- `words::meaning::facts_in` meets its contract. Assumes nothing.
 use mathlib.Core.Path.{refl}
-use Rattle.words.specs.Packed.{factsIn}
 use Rattle.words.proofs.meaning.facts_in.Statement.{statement}
 use Rattle.words.proofs.meaning.facts_in.Tie as tie
 

@@ -1,6 +1,6 @@
 -- `words::rows::class_at` meets its contract. Assumes nothing.
 use native.Mathlib.Omega.{arith}
-use mathlib.Core.Path.{refl, sym}
+use mathlib.Core.Path.{sym}
 use lib.ListN.{List·getD-eq-default}
 use Rattle.words.specs.Classes.{none}
 use Rattle.laws.specs.Lists.{getD-inside}

@@ -1,6 +1,6 @@
 -- `words::rows::row_of` meets its contract. Assumes nothing.
 use Rattle.laws.specs.Choice.{pick}
-use borrow.Author.Tests.{lt-ltb, le-ltb, le-leb, lt-leb, eq-eqb, ne-eqb, not-true, not-false}
+use borrow.Author.Tests.{lt-ltb, le-ltb, ne-eqb}
 use Rattle.words.specs.Classes.{choices, fieldOf, codeAt, rowIn, rowOf}
 use borrow.Author.Needs.{needs}
 use Rattle.words.proofs.rows.row_of.Statement.{statement}

@@ -1,6 +1,5 @@
 -- `words::single::class_of` meets its contract. Assumes nothing.
-use mathlib.Core.Path.{_∙_}
-use Rattle.words.proofs.SingleWord.{class-byte}
+use Rattle.words.proofs.single.Laws.{class-byte}
 use borrow.Author.Needs.{needs}
 use Rattle.words.proofs.single.class_of.Statement.{statement}
 use Rattle.words.proofs.single.class_of.Tie as tie

@@ -1,7 +1,7 @@
 -- `words::tables::class_table` meets its contract. Assumes nothing.
 use mathlib.Core.Path.{refl}
 use Rattle.laws.specs.Choice.{pick}
-use Rattle.words.proofs.ClassTable.{classes-exact}
+use Rattle.words.proofs.ClassesExact.{classes-exact}
 use Rattle.words.specs.Classes.{classOf}
 use Rattle.words.specs.Packed.{classTable}
 use Rattle.words.proofs.tables.class_table.Statement.{statement}

@@ -1,5 +1,5 @@
 -- `words::verdict::available_in` meets its contract. Assumes nothing.
-use mathlib.Core.Path.{refl, sym, ap, _∙_}
+use mathlib.Core.Path.{sym, ap}
 use lib.ListN.{List·getD-eq-default}
 use Rattle.laws.specs.Test.{test}
 use Rattle.laws.specs.Lists.{column-at}

@@ -1,5 +1,4 @@
 -- `yam_c::flat::machine_from` meets its contract. Assumes nothing.
-use mathlib.Core.Path.{_≡_, refl, sym, ap, _∙_}
 use Rattle.yam_c.proofs.Machines.{shaped-length, machine-in, machine-out}
 use borrow.Author.Needs.{needs}
 use Rattle.yam_c.proofs.flat.machine_from.Statement.{statement}

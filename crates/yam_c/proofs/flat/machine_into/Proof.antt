@@ -2,7 +2,7 @@
 use native.Mathlib.Omega.{arith}
 use lib.ListN.{length}
 -- `yam_c::flat::machine_into` meets its contract. Assumes nothing.
-use mathlib.Core.Path.{_≡_, refl, sym, ap, _∙_}
+use mathlib.Core.Path.{_≡_}
 use Rattle.yam_c.proofs.Machines.{whole}
 use borrow.Author.Needs.{needs}
 use Rattle.yam_c.proofs.flat.machine_into.Statement.{statement}

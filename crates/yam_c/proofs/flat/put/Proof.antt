@@ -1,5 +1,5 @@
 -- `yam_c::flat::put` meets its contract. Assumes nothing.
-use mathlib.Core.Path.{_≡_, refl, sym, ap, _∙_}
+use mathlib.Core.Path.{sym}
 use lib.Seq.{set-out}
 use borrow.Author.Needs.{needs}
 use Rattle.yam_c.proofs.flat.put.Statement.{statement}

@@ -1,5 +1,5 @@
 -- `yam_c::flat::stack_in` meets its contract. Assumes nothing.
-use mathlib.Core.Path.{_≡_, refl, sym, ap, _∙_}
+use mathlib.Core.Path.{_∙_}
 use Rattle.yam_c.proofs.Machines.{stack-cells}
 use borrow.Author.Needs.{needs}
 use Rattle.yam_c.proofs.flat.stack_in.Statement.{statement}

@@ -5,7 +5,7 @@ use Prim.Native.Nat.{_+_, _-_}
 use borrow.Author.Needs.{needs}
 use lib.ListN.{length, length-set, drop}
 use Rattle.yam_c.specs.Flat.{stored}
-use Rattle.yam_c.proofs.Storing.{stored-length, stored-first, stored-next, stored-done}
+use Rattle.yam_c.proofs.Storing.{stored-first, stored-next, stored-done}
 use Rattle.yam_c.proofs.flat.store.Statement.{statement}
 use Rattle.yam_c.proofs.flat.store.Tie as tie
 

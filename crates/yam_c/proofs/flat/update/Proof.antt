@@ -1,5 +1,4 @@
 -- `yam_c::flat::update` meets its contract. Assumes nothing.
-use mathlib.Core.Path.{_≡_, refl, sym, ap, _∙_}
 use Rattle.yam_c.proofs.Machines.{changed, unchanged}
 use borrow.Author.Needs.{needs}
 use Rattle.yam_c.proofs.flat.update.Statement.{statement}

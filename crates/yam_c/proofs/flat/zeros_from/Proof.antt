@@ -1,11 +1,11 @@
 -- `yam_c::flat::zeros_from` meets its contract. Assumes nothing.
-use mathlib.Core.Path.{_≡_, refl, sym, ap, _∙_}
+use mathlib.Core.Path.{_≡_, refl, sym, _∙_}
 use native.Mathlib.Omega.{arith}
 use Prim.Native.Nat.{_-_}
 use borrow.Author.Needs.{needs}
 use lib.ListN.{length, drop}
 use Rattle.laws.specs.Test.{below}
-use Rattle.machine.proofs.Cellwise.{below-further, below-ends, below-done}
+use Rattle.laws.specs.Cells.{below-further, below-ends, below-done}
 use Rattle.yam_c.proofs.flat.zeros_from.Statement.{statement}
 use Rattle.yam_c.proofs.flat.zeros_from.Tie as tie
 

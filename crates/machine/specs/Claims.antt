@@ -1,0 +1,21 @@
+-- What the public calls promise: one equation each, and what is proved of the definitions beside it.
+use Prim.Native.Nat.{ℕ, _*_, _≤_}
+use mathlib.Core.Path.{_≡_}
+use Rattle.state.specs.State.{Env, State}
+use Rattle.state.specs.Step.{Outcome, stepOf}
+use Rattle.state.specs.Run.{runCall}
+use Rattle.state.specs.Claims.{RefusedStays, CellsStay, RunSplits}
+use Rattle.machine.specs.Stepping.{End, endOf}
+
+-- `step` from s leaves and answers o
+pub record Steps (e : Env) (s : State) (o : Outcome) : Type 0 where
+  pub answer : o ≡ stepOf e s
+  pub refused-stays : RefusedStays
+  pub cells-stay : CellsStay
+
+-- `run` from s with this budget leaves and answers x
+pub record Runs (budget : ℕ) (e : Env) (s : State) (x : End) : Type 0 where
+  pub answer : x ≡ endOf (runCall budget e s)
+  pub least : 2 * x .steps ≤ x .cycles
+  pub most : x .cycles ≤ 3 * x .steps
+  pub splits : RunSplits

@@ -1,0 +1,77 @@
+-- What code asks of a part's number is what is asked of the part.
+-- Assumes nothing.
+use Prim.Native.Nat.{ℕ, zero, suc, _/_, _%_, _<_}
+use mathlib.Core.Path.{_≡_, refl}
+use mathlib.Core.Bool.{Bool, true, false, _&&_}
+use mathlib.Core.List.{List}
+use lib.Dec.{ltb, eqb}
+use lib.ListN.{getD}
+use native.Mathlib.Omega.{arith}
+use borrow.Author.Tests.{le-ltb, eq-eqb, ne-eqb}
+use Rattle.laws.specs.Choice.{pick}
+use Rattle.laws.specs.Table.{at-every, value-at}
+use Rattle.laws.specs.Test.{test, imp}
+use Rattle.words.specs.declared.Config.{Config}
+use Rattle.words.specs.Parts.{Part, unused, flag, byte, coprocessor, register, unit, mask, immediate, read-address, write-address, target, count, bank-address, short, is, inRange}
+use Rattle.words.specs.Codes.{partAt}
+use Rattle.words.specs.Packed.{limitOf, limitTable}
+use Rattle.words.specs.Words.{flagIn}
+use Rattle.words.proofs.Checks.{alike, alike-is}
+
+pub unused-code : (d : ℕ) → d < 16 → is (partAt d) unused ≡ eqb d 0
+unfolding partAt
+unused-code d h = alike-is _ _ (at-every 16 (λ n. alike (is (partAt n) unused) (eqb n 0)) d tt h)
+
+pub flag-code : (d : ℕ) → d < 16 → is (partAt d) flag ≡ eqb d 1
+unfolding partAt
+flag-code d h = alike-is _ _ (at-every 16 (λ n. alike (is (partAt n) flag) (eqb n 1)) d tt h)
+
+pub target-code : (d : ℕ) → d < 16 → is (partAt d) target ≡ eqb d 10
+unfolding partAt
+target-code d h = alike-is _ _ (at-every 16 (λ n. alike (is (partAt n) target) (eqb n 10)) d tt h)
+
+pub flag-there : (d k : ℕ) → d < 16 → d ≡ 1 → k / 8 % 2 ≡ flagIn (partAt d) k
+unfolding flagIn pick
+flag-there d k h e = rw (flag-code d h, eq-eqb d 1 e)
+
+pub flag-absent : (d k : ℕ) → d < 16 → (d ≡ 1 → ⊥) → 0 ≡ flagIn (partAt d) k
+unfolding flagIn pick
+flag-absent d k h e = rw (flag-code d h, ne-eqb d 1 e)
+
+count-code : (d : ℕ) → d < 16 → is (partAt d) count ≡ eqb d 11
+unfolding partAt
+count-code d h = alike-is _ _ (at-every 16 (λ n. alike (is (partAt n) count) (eqb n 11)) d tt h)
+
+-- the range of a part is below its limit, but that a shift at level 0 is by 1
+
+below-one : (v : ℕ) → ltb v 1 ≡ eqb v 0
+below-one zero = refl
+below-one (suc v) = rw (le-ltb (suc v) 1 (omega arith), ne-eqb (suc v) 0 (omega arith))
+
+swapped : (a b : Bool) → a && b ≡ b && a
+swapped true true = refl
+swapped true false = refl
+swapped false true = refl
+swapped false false = refl
+
+range-by : (c : Config) (p : Part) (v : ℕ) → imp (is p count && eqb (c .alulevel) 0) (eqb v 1) && ltb v (limitOf c p) ≡ test (inRange c p v)
+unfolding inRange limitOf
+range-by c unused v = below-one v
+range-by c flag v = refl
+range-by c byte v = refl
+range-by c coprocessor v = refl
+range-by c register v = refl
+range-by c unit v = refl
+range-by c mask v = refl
+range-by c immediate v = refl
+range-by c read-address v = refl
+range-by c write-address v = refl
+range-by c target v = refl
+range-by c count v = swapped (imp (eqb (c .alulevel) 0) (eqb v 1)) (ltb v 16)
+range-by c bank-address v = refl
+range-by c short v = refl
+
+pub range-code : (c : Config) (l : List ℕ) (d v : ℕ) → l ≡ limitTable c → d < 16 →
+    imp (eqb d 11 && eqb (c .alulevel) 0) (eqb v 1) && ltb v (getD l d 0) ≡ test (inRange c (partAt d) v)
+unfolding limitTable
+range-code c l d v e h = rw (e, value-at (λ n. limitOf c (partAt n)) 16 d 0 h, ← count-code d h) (range-by c (partAt d) v)

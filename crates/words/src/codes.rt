@@ -1,0 +1,77 @@
+// The numbers of parts, options and marks in a row's packed columns (specs/Codes.antt). Written by tools/rows.
+
+// what a part holds
+
+pub const UNUSED: u32 = 0;
+
+pub const FLAG: u32 = 1;
+
+pub const BYTE: u32 = 2;
+
+pub const COPROCESSOR: u32 = 3;
+
+pub const REGISTER: u32 = 4;
+
+pub const UNIT: u32 = 5;
+
+pub const MASK: u32 = 6;
+
+pub const IMMEDIATE: u32 = 7;
+
+pub const READ_ADDRESS: u32 = 8;
+
+pub const WRITE_ADDRESS: u32 = 9;
+
+pub const TARGET: u32 = 10;
+
+pub const COUNT: u32 = 11;
+
+pub const BANK_ADDRESS: u32 = 12;
+
+pub const SHORT: u32 = 13;
+
+// the weights of the digits, the flag's being the lowest, and of the marks
+
+pub const NUMBER_DIGIT: u64 = 0x10;
+
+pub const DESTINATION_DIGIT: u64 = 0x100;
+
+pub const SOURCE_DIGIT: u64 = 0x1000;
+
+pub const VALUE_DIGIT: u64 = 0x10000;
+
+pub const OPTION_DIGIT: u64 = 0x100000;
+
+pub const MARKS: u64 = 0x1000000;
+
+// the weights of a mark among the marks
+
+pub const GOES_ON: u64 = 1;
+
+pub const JUMPS: u64 = 2;
+
+pub const CALLS: u64 = 4;
+
+pub const RETURNS: u64 = 8;
+
+pub const ENTERS_MODE: u64 = 16;
+
+pub const LEAVES_MODE: u64 = 32;
+
+pub const REVEALS: u64 = 64;
+
+pub const READS_PORT: u64 = 128;
+
+pub const WRITES_PORT: u64 = 256;
+
+pub const LOADS: u64 = 512;
+
+pub const STORES: u64 = 1024;
+
+pub const BY_REGISTER: u64 = 2048;
+
+pub const ENTERS_BANK: u64 = 4096;
+
+pub const LEAVES_BANK: u64 = 8192;
+
+pub const BARRED: u64 = 16384;

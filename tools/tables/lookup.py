@@ -1,0 +1,70 @@
+"""How code looks a row up: its action, one number for kind, operation and operand together, and its check, one number for limits and option.
+
+Nothing here is to be believed: the proofs compare it with the rows."""
+from .rows import CLASSES, CONDITIONS, FORMS, INDEX, IRQ_SWITCH, MISC, NO_ROW, PORT, ROWS, UPPER_BYTES, class_of, marks, part
+
+
+def supported(r): return r['option'] != 'never'
+
+
+def whole(r): return part(r, 'value') == 'target'
+
+
+def action(r):
+    """The kind, with f for the form of an immediate and c for the condition: those stand in the row's entry."""
+    if not supported(r): return 'unsupported'
+    return ' '.join('(literal f)' if x.startswith('(literal') else 'f' if x in FORMS else 'c' if x in CONDITIONS else x for x in r['kind'])
+
+
+def action_name(a):
+    """An action is named by its rows: IORMW, TST-register, TST-immediate, JMP-condition."""
+    if a == 'unsupported': return a
+    names = [r['name'] for r in ROWS if action(r) == a]
+    if len(names) == 1: return names[0]
+    stem, _ = names[0].rsplit('-', 1)
+    return stem + ('-condition' if names[0].startswith('JMP') else '-immediate')
+
+
+def check(r):
+    """Code in bits 22-0, what bits 22-16 and 15-0 hold beside it, option, whether there is a byte number, and what makes it wait."""
+    if not supported(r): return None
+    lower = part(r, 'source') if part(r, 'value') == 'unused' else part(r, 'value')
+    side = lambda p: 'anything' if whole(r) else f'(part {p})'
+    wait = next((w for m, w in (('reads-port', 'input'), ('loads', 'load')) if m in marks(r)), 'no-wait')
+    return (r['base'] % (1 << 23), side(part(r, 'destination')), side(lower), r['option'], int(part(r, 'number') == 'byte'), wait)
+
+
+def numbered(of, first): return list(dict.fromkeys([first] + [of(r) for r in ROWS]))
+
+
+ACTIONS, CHECKS = numbered(action, 'unsupported'), numbered(check, None)
+assert len(ACTIONS) <= 64 and len(CHECKS) <= 64
+# The parts of a word that an action reads.
+USES = 'flag destination source number value target unit'.split()
+
+
+def uses(a):
+    if a == 'unsupported': return []
+    r = next(r for r in ROWS if action(r) == a)
+    found = [column for column, held in (('flag', 'flag'), ('number', 'byte'), ('destination', 'register'), ('source', 'register')) if part(r, column) == held]
+    if part(r, 'destination') == 'unit': found.append('unit')
+    if whole(r): found.append('target')
+    elif part(r, 'value') != 'unused': found.append('value')
+    return found
+
+
+def entry(r):
+    """Check, condition, form and action as digits of one number."""
+    arguments = ' '.join(r['kind'][1:]).replace('(', ' ').replace(')', ' ').split() if supported(r) else []
+    form = next((FORMS.index(x) for x in arguments if x in FORMS), 0)
+    condition = next((CONDITIONS.index(x) for x in r['kind'][1:] if x in CONDITIONS), 0)
+    return CHECKS.index(check(r)) | condition << 8 | form << 12 | ACTIONS.index(action(r)) << 26
+
+
+# The field that chooses among the rows of a class: where it stands, the mask that cuts it out, where its entries begin (specs/Finding.antt).
+def field(shift, mask, start): return 0x80 | mask << 8 | shift << 16 | start << 21
+
+
+FIELDS = {INDEX: field(8, 255, 0), UPPER_BYTES: field(8, 255, 256), PORT: field(15, 1, 512), IRQ_SWITCH: field(22, 1, 514), MISC: field(16, 127, 516), NO_ROW: 0}
+KEYS = [entry(ROWS[c]) if c < INDEX else FIELDS[c] for c in CLASSES]
+CHOSEN = [r for r in ROWS if class_of(r['base'] >> 23) >= INDEX and entry(r)]
