@@ -164,20 +164,21 @@ unfolding {unfolding}
 
 LAWS = 'Rattle.words.proofs.single.Laws.'
 REFL = 'mathlib.Core.Path.{refl}'
+TABLE = 'Rattle.laws.specs.Table.{excluded}'
 
 
 def proofs():
     past = f'(excluded _ {len(ROWS)} (c .match .rest))'
     yield 'eight_classes', proof_of_match(
         'eight_classes', [REFL, 'native.Mathlib.Omega.{arith}', 'Rattle.laws.specs.Choice.{pick}', SPECS + 'Classes.{classOf}', SPECS + 'Packed.{eightClasses}',
-                          LAWS + '{excluded, classes-moved}'],
+                          TABLE, LAWS + '{classes-moved}'],
         'eightClasses classOf pick', 'classes-moved', 64, 'let h = excluded _ 64 (c .match .rest) in absurd (omega (arith, h))')
     yield 'base_of', proof_of_match(
-        'base_of', [REFL, SPECS + 'Rows.{rows}', SPECS + 'Packed.{baseTable}', LAWS + '{excluded, base-moved, base-past}'],
+        'base_of', [REFL, SPECS + 'Rows.{rows}', SPECS + 'Packed.{baseTable}', TABLE, LAWS + '{base-moved, base-past}'],
         'baseTable rows', 'base-moved', len(ROWS), f'base-past _ {past}')
     yield 'packed_of', proof_of_match(
         'packed_of', [REFL, SPECS + 'Kinds.{marksOf}', SPECS + 'Rows.{rows}', SPECS + 'Codes.{partCode, optionCode, weight}', SPECS + 'Packed.{packed, rowTable}',
-                      LAWS + '{excluded, packed-moved, packed-past}'],
+                      TABLE, LAWS + '{packed-moved, packed-past}'],
         'rowTable rows packed partCode optionCode marksOf weight', 'packed-moved', len(ROWS), f'packed-past _ {past}')
 
 

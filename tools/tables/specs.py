@@ -70,8 +70,7 @@ unfoldable pub marksOf : Kind → List Mark
 
 def frames(): return f'''-- What the parts of a word hold, by the kind of its row: document 01, 'Words', and the main frames of
 -- manual 5.17.1. {WRITTEN}
-use mathlib.Core.Bool.{{Bool, true, false}}
-use Rattle.laws.specs.Choice.{{decided}}
+use Rattle.laws.specs.Choice.{{decided, swapped}}
 {USE_PARTS}
 {USE_OPERANDS}
 {USE_KINDS}
@@ -84,10 +83,6 @@ pub record Frame : Type 0 where
 pub data Column : Type 0 where
   {' '.join(c.upper() for c in COLUMNS)} : Column
   deriving Discrete as Column-discrete
-
-abbrev swapped : Bool → Part → Part → Part
-swapped true p q = p
-swapped false p q = q
 
 -- no part is used
 abbrev pub bare : Frame

@@ -45,3 +45,8 @@ is-false false h = refl
 
 pub true-is : (b : Bool) → b ≡ true → T b
 true-is b e = rw e tt
+
+-- x where b holds, else y, and always computed: for a record that is changed at one named place
+abbrev pub swapped : {A : Type 0} → Bool → A → A → A
+swapped true x y = x
+swapped false x y = y

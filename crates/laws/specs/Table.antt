@@ -4,7 +4,8 @@
 use mathlib.Core.Path.{_≡_, ap, _∙_}
 use mathlib.Core.Bool.{Bool, true, _&&_}
 use mathlib.Core.List.{List, [], _∷_}
-use Prim.Native.Nat.{ℕ, zero, suc, _+_, _<_}
+use Prim.Native.Nat.{ℕ, zero, suc, _+_, _<_, _≤_}
+use native.Mathlib.Omega.{arith}
 use native.Mathlib.Nat.{add-zero, zero-add, add-suc, suc-add, le-of-suc-le-suc, not-suc-le-zero}
 use lib.Dec.{T}
 use lib.ListN.{getD}
@@ -39,3 +40,12 @@ value-from f (suc n) i (suc k) d h = rw (add-suc, ← suc-add) (value-from f n (
 
 pub value-at : (f : ℕ → ℕ) (n k d : ℕ) → k < n → getD (values f 0 n) k d ≡ f k
 value-at f n k d h = value-from f n 0 k d h ∙ ap f (zero-add k)
+
+-- n is none of the numbers below k: what the last arm of a match on them knows
+abbrev pub Excluded : ℕ → ℕ → Type 0
+Excluded n zero = Unit {0}
+Excluded n (suc k) = Excluded n k × (n ≡ k → ⊥)
+
+pub excluded : (n k : ℕ) → Excluded n k → k ≤ n
+excluded n zero t = omega arith
+excluded n (suc k) t = let h = excluded n k (t .0) in let e = t .1 in omega (arith, h, e)

@@ -1,14 +1,17 @@
 // What an instruction does, by its action (words' specs/Actions.antt): one choice for kind, operation and form.
 ghost use mathlib.Core.Path.{_≡_};
-ghost use Prim.Native.Nat.{_+_, _%_, _≤_, _<_};
+ghost use Prim.Native.Nat.{_+_, _/_, _%_, _≤_, _<_};
 ghost use lib.ListN.{getD, length};
 ghost use Rattle.laws.specs.Test.{Holds};
 ghost use Rattle.words.specs.Configs.{lawful};
 ghost use Rattle.state.specs.State.{stackLimit};
-ghost use Rattle.state.specs.Operands.{view};
+ghost use Rattle.words.specs.Codes.{formAt};
+ghost use Rattle.state.specs.Operands.{view, constant};
+ghost use Rattle.plans.specs.Values.{operands};
 ghost use Rattle.state.specs.Plans.{contextOf};
 ghost use Rattle.machine.specs.Exec.{movedValue, Fit, Acts};
 use crate::memories::cell;
+use plans::Operands;
 use plans::context;
 use state::Change;
 use state::Core;
@@ -60,6 +63,42 @@ fn context_of(m: Core) -> u32
     context::BANK * bank + context::N * n + context::Z * z + context::IMASK * imask + back
 }
 
+// The operands of an ALU word: bits 22-16 name the destination, bits 6-0 the second operand's register.
+fn by_register(c: Config, m: Core, registers: &[u32], w: u32) -> Operands
+    requires { ⌜ Fit c m (length (now registers)) ⌝ }
+    ensures { λ r. ⌜ r ≡ operands (m .wp + w / 65536 % c .regsize) (getD (now (registers .entry)) (m .wp + w / 65536 % c .regsize) 0) (getD (now (registers .entry)) (m .wp + w % c .regsize) 0) ⌝ }
+{
+    let at = place(c, m.wp, w / layout::UPPER);
+    let d = register(c, m, registers, w / layout::UPPER);
+    let x = register(c, m, registers, w);
+    Operands { at, d, x }
+}
+
+// The same with an immediate.
+fn by_immediate(c: Config, m: Core, registers: &[u32], e: u32, w: u32) -> Operands
+    requires { ⌜ Fit c m (length (now registers)) ⌝ }
+    ensures { λ r. ⌜ r ≡ operands (m .wp + w / 65536 % c .regsize) (getD (now (registers .entry)) (m .wp + w / 65536 % c .regsize) 0) (constant c (formAt (e / 4096 % 4)) (w % 65536)) ⌝ }
+{
+    let at = place(c, m.wp, w / layout::UPPER);
+    let d = register(c, m, registers, w / layout::UPPER);
+    let x = plans::immediate_in(c, e, w);
+    Operands { at, d, x }
+}
+
+// The same with a shift count.
+fn by_count(c: Config, m: Core, registers: &[u32], w: u32) -> Operands
+    requires { ⌜ Fit c m (length (now registers)) ⌝ }
+    ensures { λ r. ⌜ r ≡ operands (m .wp + w / 65536 % c .regsize) (getD (now (registers .entry)) (m .wp + w / 65536 % c .regsize) 0) (w % 65536) ⌝ }
+{
+    let at = place(c, m.wp, w / layout::UPPER);
+    let d = register(c, m, registers, w / layout::UPPER);
+    Operands {
+        at,
+        d,
+        x: w % layout::LOWER_VALUES,
+    }
+}
+
 // The change that word w makes, whose row's entry is e, or its stop, 9 to 15; `limit` is the return stack's.
 pub fn exec(
     c: Config,
@@ -79,338 +118,176 @@ pub fn exec(
     let last = c.regsize - 1;
     match e / entries::ACTION {
         actions::UNSUPPORTED => plans::skip(m),
-        actions::TST_REGISTER => plans::compare(
-            c,
-            m,
-            w / layout::FLAG % 2,
-            Operation::And,
-            register(c, m, registers, w / layout::UPPER),
-            register(c, m, registers, w),
-        ),
-        actions::TST_IMMEDIATE => plans::compare(
-            c,
-            m,
-            w / layout::FLAG % 2,
-            Operation::And,
-            register(c, m, registers, w / layout::UPPER),
-            plans::immediate_in(c, e, w),
-        ),
-        actions::AND_REGISTER => plans::compute(
-            c,
-            m,
-            w / layout::FLAG % 2,
-            Operation::And,
-            place(c, m.wp, w / layout::UPPER),
-            register(c, m, registers, w / layout::UPPER),
-            register(c, m, registers, w),
-        ),
-        actions::AND_IMMEDIATE => plans::compute(
-            c,
-            m,
-            w / layout::FLAG % 2,
-            Operation::And,
-            place(c, m.wp, w / layout::UPPER),
-            register(c, m, registers, w / layout::UPPER),
-            plans::immediate_in(c, e, w),
-        ),
-        actions::OR_REGISTER => plans::compute(
-            c,
-            m,
-            w / layout::FLAG % 2,
-            Operation::Or,
-            place(c, m.wp, w / layout::UPPER),
-            register(c, m, registers, w / layout::UPPER),
-            register(c, m, registers, w),
-        ),
-        actions::OR_IMMEDIATE => plans::compute(
-            c,
-            m,
-            w / layout::FLAG % 2,
-            Operation::Or,
-            place(c, m.wp, w / layout::UPPER),
-            register(c, m, registers, w / layout::UPPER),
-            plans::immediate_in(c, e, w),
-        ),
-        actions::XOR_REGISTER => plans::compute(
-            c,
-            m,
-            w / layout::FLAG % 2,
-            Operation::Xor,
-            place(c, m.wp, w / layout::UPPER),
-            register(c, m, registers, w / layout::UPPER),
-            register(c, m, registers, w),
-        ),
-        actions::XOR_IMMEDIATE => plans::compute(
-            c,
-            m,
-            w / layout::FLAG % 2,
-            Operation::Xor,
-            place(c, m.wp, w / layout::UPPER),
-            register(c, m, registers, w / layout::UPPER),
-            plans::immediate_in(c, e, w),
-        ),
-        actions::CMP_REGISTER => plans::compare(
-            c,
-            m,
-            w / layout::FLAG % 2,
-            Operation::Sub,
-            register(c, m, registers, w / layout::UPPER),
-            register(c, m, registers, w),
-        ),
-        actions::CMP_IMMEDIATE => plans::compare(
-            c,
-            m,
-            w / layout::FLAG % 2,
-            Operation::Sub,
-            register(c, m, registers, w / layout::UPPER),
-            plans::immediate_in(c, e, w),
-        ),
-        actions::CMPS_REGISTER => plans::compare(
-            c,
-            m,
-            w / layout::FLAG % 2,
-            Operation::Subs,
-            register(c, m, registers, w / layout::UPPER),
-            register(c, m, registers, w),
-        ),
-        actions::CMPS_IMMEDIATE => plans::compare(
-            c,
-            m,
-            w / layout::FLAG % 2,
-            Operation::Subs,
-            register(c, m, registers, w / layout::UPPER),
-            plans::immediate_in(c, e, w),
-        ),
-        actions::SUB_REGISTER => plans::compute(
-            c,
-            m,
-            w / layout::FLAG % 2,
-            Operation::Sub,
-            place(c, m.wp, w / layout::UPPER),
-            register(c, m, registers, w / layout::UPPER),
-            register(c, m, registers, w),
-        ),
-        actions::SUB_IMMEDIATE => plans::compute(
-            c,
-            m,
-            w / layout::FLAG % 2,
-            Operation::Sub,
-            place(c, m.wp, w / layout::UPPER),
-            register(c, m, registers, w / layout::UPPER),
-            plans::immediate_in(c, e, w),
-        ),
-        actions::SUBS_REGISTER => plans::compute(
-            c,
-            m,
-            w / layout::FLAG % 2,
-            Operation::Subs,
-            place(c, m.wp, w / layout::UPPER),
-            register(c, m, registers, w / layout::UPPER),
-            register(c, m, registers, w),
-        ),
-        actions::SUBS_IMMEDIATE => plans::compute(
-            c,
-            m,
-            w / layout::FLAG % 2,
-            Operation::Subs,
-            place(c, m.wp, w / layout::UPPER),
-            register(c, m, registers, w / layout::UPPER),
-            plans::immediate_in(c, e, w),
-        ),
-        actions::ADD_REGISTER => plans::compute(
-            c,
-            m,
-            w / layout::FLAG % 2,
-            Operation::Add,
-            place(c, m.wp, w / layout::UPPER),
-            register(c, m, registers, w / layout::UPPER),
-            register(c, m, registers, w),
-        ),
-        actions::ADD_IMMEDIATE => plans::compute(
-            c,
-            m,
-            w / layout::FLAG % 2,
-            Operation::Add,
-            place(c, m.wp, w / layout::UPPER),
-            register(c, m, registers, w / layout::UPPER),
-            plans::immediate_in(c, e, w),
-        ),
-        actions::ADDC_REGISTER => plans::compute(
-            c,
-            m,
-            w / layout::FLAG % 2,
-            Operation::Addc,
-            place(c, m.wp, w / layout::UPPER),
-            register(c, m, registers, w / layout::UPPER),
-            register(c, m, registers, w),
-        ),
-        actions::ADDC_IMMEDIATE => plans::compute(
-            c,
-            m,
-            w / layout::FLAG % 2,
-            Operation::Addc,
-            place(c, m.wp, w / layout::UPPER),
-            register(c, m, registers, w / layout::UPPER),
-            plans::immediate_in(c, e, w),
-        ),
-        actions::SUBC_REGISTER => plans::compute(
-            c,
-            m,
-            w / layout::FLAG % 2,
-            Operation::Subc,
-            place(c, m.wp, w / layout::UPPER),
-            register(c, m, registers, w / layout::UPPER),
-            register(c, m, registers, w),
-        ),
-        actions::SUBC_IMMEDIATE => plans::compute(
-            c,
-            m,
-            w / layout::FLAG % 2,
-            Operation::Subc,
-            place(c, m.wp, w / layout::UPPER),
-            register(c, m, registers, w / layout::UPPER),
-            plans::immediate_in(c, e, w),
-        ),
-        actions::MUL_REGISTER => plans::multiply(
-            c,
-            m,
-            place(c, m.wp, w / layout::UPPER),
-            register(c, m, registers, w / layout::UPPER),
-            register(c, m, registers, w),
-        ),
-        actions::MUL_IMMEDIATE => plans::multiply(
-            c,
-            m,
-            place(c, m.wp, w / layout::UPPER),
-            register(c, m, registers, w / layout::UPPER),
-            plans::immediate_in(c, e, w),
-        ),
-        actions::SHR_REGISTER => plans::compute(
-            c,
-            m,
-            w / layout::FLAG % 2,
-            Operation::Shr,
-            place(c, m.wp, w / layout::UPPER),
-            register(c, m, registers, w / layout::UPPER),
-            register(c, m, registers, w),
-        ),
-        actions::SHRA_REGISTER => plans::compute(
-            c,
-            m,
-            w / layout::FLAG % 2,
-            Operation::Shra,
-            place(c, m.wp, w / layout::UPPER),
-            register(c, m, registers, w / layout::UPPER),
-            register(c, m, registers, w),
-        ),
-        actions::SHL_REGISTER => plans::compute(
-            c,
-            m,
-            w / layout::FLAG % 2,
-            Operation::Shl,
-            place(c, m.wp, w / layout::UPPER),
-            register(c, m, registers, w / layout::UPPER),
-            register(c, m, registers, w),
-        ),
-        actions::SHR_COUNT => plans::compute(
-            c,
-            m,
-            w / layout::FLAG % 2,
-            Operation::Shr,
-            place(c, m.wp, w / layout::UPPER),
-            register(c, m, registers, w / layout::UPPER),
-            w % layout::LOWER_VALUES,
-        ),
-        actions::SHRA_COUNT => plans::compute(
-            c,
-            m,
-            w / layout::FLAG % 2,
-            Operation::Shra,
-            place(c, m.wp, w / layout::UPPER),
-            register(c, m, registers, w / layout::UPPER),
-            w % layout::LOWER_VALUES,
-        ),
-        actions::SHL_COUNT => plans::compute(
-            c,
-            m,
-            w / layout::FLAG % 2,
-            Operation::Shl,
-            place(c, m.wp, w / layout::UPPER),
-            register(c, m, registers, w / layout::UPPER),
-            w % layout::LOWER_VALUES,
-        ),
-        actions::ROTR => plans::compute(
-            c,
-            m,
-            w / layout::FLAG % 2,
-            Operation::Rotr,
-            place(c, m.wp, w / layout::UPPER),
-            register(c, m, registers, w / layout::UPPER),
-            register(c, m, registers, w),
-        ),
-        actions::ROTL => plans::compute(
-            c,
-            m,
-            w / layout::FLAG % 2,
-            Operation::Rotl,
-            place(c, m.wp, w / layout::UPPER),
-            register(c, m, registers, w / layout::UPPER),
-            register(c, m, registers, w),
-        ),
-        actions::SHL16 => plans::compute(
-            c,
-            m,
-            w / layout::FLAG % 2,
-            Operation::Shl16,
-            place(c, m.wp, w / layout::UPPER),
-            register(c, m, registers, w / layout::UPPER),
-            register(c, m, registers, w),
-        ),
-        actions::ABS => plans::compute(
-            c,
-            m,
-            w / layout::FLAG % 2,
-            Operation::Abs,
-            place(c, m.wp, w / layout::UPPER),
-            register(c, m, registers, w / layout::UPPER),
-            register(c, m, registers, w),
-        ),
-        actions::CLZ => plans::compute(
-            c,
-            m,
-            w / layout::FLAG % 2,
-            Operation::Clz,
-            place(c, m.wp, w / layout::UPPER),
-            register(c, m, registers, w / layout::UPPER),
-            register(c, m, registers, w),
-        ),
-        actions::BST => plans::compute(
-            c,
-            m,
-            w / layout::FLAG % 2,
-            Operation::Bst(w / layout::NUMBER % layout::BYTE_NUMBERS),
-            place(c, m.wp, w / layout::UPPER),
-            register(c, m, registers, w / layout::UPPER),
-            register(c, m, registers, w),
-        ),
-        actions::BLD => plans::compute(
-            c,
-            m,
-            w / layout::FLAG % 2,
-            Operation::Bld(w / layout::NUMBER % layout::BYTE_NUMBERS),
-            place(c, m.wp, w / layout::UPPER),
-            register(c, m, registers, w / layout::UPPER),
-            register(c, m, registers, w),
-        ),
-        actions::BLDS => plans::compute(
-            c,
-            m,
-            w / layout::FLAG % 2,
-            Operation::Blds(w / layout::NUMBER % layout::BYTE_NUMBERS),
-            place(c, m.wp, w / layout::UPPER),
-            register(c, m, registers, w / layout::UPPER),
-            register(c, m, registers, w),
-        ),
+        actions::TST_REGISTER => {
+            let t = by_register(c, m, registers, w);
+            plans::compare(c, m, w / layout::FLAG % 2, Operation::And, t)
+        },
+        actions::TST_IMMEDIATE => {
+            let t = by_immediate(c, m, registers, e, w);
+            plans::compare(c, m, w / layout::FLAG % 2, Operation::And, t)
+        },
+        actions::AND_REGISTER => {
+            let t = by_register(c, m, registers, w);
+            plans::compute(c, m, w / layout::FLAG % 2, Operation::And, t)
+        },
+        actions::AND_IMMEDIATE => {
+            let t = by_immediate(c, m, registers, e, w);
+            plans::compute(c, m, w / layout::FLAG % 2, Operation::And, t)
+        },
+        actions::OR_REGISTER => {
+            let t = by_register(c, m, registers, w);
+            plans::compute(c, m, w / layout::FLAG % 2, Operation::Or, t)
+        },
+        actions::OR_IMMEDIATE => {
+            let t = by_immediate(c, m, registers, e, w);
+            plans::compute(c, m, w / layout::FLAG % 2, Operation::Or, t)
+        },
+        actions::XOR_REGISTER => {
+            let t = by_register(c, m, registers, w);
+            plans::compute(c, m, w / layout::FLAG % 2, Operation::Xor, t)
+        },
+        actions::XOR_IMMEDIATE => {
+            let t = by_immediate(c, m, registers, e, w);
+            plans::compute(c, m, w / layout::FLAG % 2, Operation::Xor, t)
+        },
+        actions::CMP_REGISTER => {
+            let t = by_register(c, m, registers, w);
+            plans::compare(c, m, w / layout::FLAG % 2, Operation::Sub, t)
+        },
+        actions::CMP_IMMEDIATE => {
+            let t = by_immediate(c, m, registers, e, w);
+            plans::compare(c, m, w / layout::FLAG % 2, Operation::Sub, t)
+        },
+        actions::CMPS_REGISTER => {
+            let t = by_register(c, m, registers, w);
+            plans::compare(c, m, w / layout::FLAG % 2, Operation::Subs, t)
+        },
+        actions::CMPS_IMMEDIATE => {
+            let t = by_immediate(c, m, registers, e, w);
+            plans::compare(c, m, w / layout::FLAG % 2, Operation::Subs, t)
+        },
+        actions::SUB_REGISTER => {
+            let t = by_register(c, m, registers, w);
+            plans::compute(c, m, w / layout::FLAG % 2, Operation::Sub, t)
+        },
+        actions::SUB_IMMEDIATE => {
+            let t = by_immediate(c, m, registers, e, w);
+            plans::compute(c, m, w / layout::FLAG % 2, Operation::Sub, t)
+        },
+        actions::SUBS_REGISTER => {
+            let t = by_register(c, m, registers, w);
+            plans::compute(c, m, w / layout::FLAG % 2, Operation::Subs, t)
+        },
+        actions::SUBS_IMMEDIATE => {
+            let t = by_immediate(c, m, registers, e, w);
+            plans::compute(c, m, w / layout::FLAG % 2, Operation::Subs, t)
+        },
+        actions::ADD_REGISTER => {
+            let t = by_register(c, m, registers, w);
+            plans::compute(c, m, w / layout::FLAG % 2, Operation::Add, t)
+        },
+        actions::ADD_IMMEDIATE => {
+            let t = by_immediate(c, m, registers, e, w);
+            plans::compute(c, m, w / layout::FLAG % 2, Operation::Add, t)
+        },
+        actions::ADDC_REGISTER => {
+            let t = by_register(c, m, registers, w);
+            plans::compute(c, m, w / layout::FLAG % 2, Operation::Addc, t)
+        },
+        actions::ADDC_IMMEDIATE => {
+            let t = by_immediate(c, m, registers, e, w);
+            plans::compute(c, m, w / layout::FLAG % 2, Operation::Addc, t)
+        },
+        actions::SUBC_REGISTER => {
+            let t = by_register(c, m, registers, w);
+            plans::compute(c, m, w / layout::FLAG % 2, Operation::Subc, t)
+        },
+        actions::SUBC_IMMEDIATE => {
+            let t = by_immediate(c, m, registers, e, w);
+            plans::compute(c, m, w / layout::FLAG % 2, Operation::Subc, t)
+        },
+        actions::MUL_REGISTER => {
+            let t = by_register(c, m, registers, w);
+            plans::multiply(c, m, t)
+        },
+        actions::MUL_IMMEDIATE => {
+            let t = by_immediate(c, m, registers, e, w);
+            plans::multiply(c, m, t)
+        },
+        actions::SHR_REGISTER => {
+            let t = by_register(c, m, registers, w);
+            plans::compute(c, m, w / layout::FLAG % 2, Operation::Shr, t)
+        },
+        actions::SHRA_REGISTER => {
+            let t = by_register(c, m, registers, w);
+            plans::compute(c, m, w / layout::FLAG % 2, Operation::Shra, t)
+        },
+        actions::SHL_REGISTER => {
+            let t = by_register(c, m, registers, w);
+            plans::compute(c, m, w / layout::FLAG % 2, Operation::Shl, t)
+        },
+        actions::SHR_COUNT => {
+            let t = by_count(c, m, registers, w);
+            plans::compute(c, m, w / layout::FLAG % 2, Operation::Shr, t)
+        },
+        actions::SHRA_COUNT => {
+            let t = by_count(c, m, registers, w);
+            plans::compute(c, m, w / layout::FLAG % 2, Operation::Shra, t)
+        },
+        actions::SHL_COUNT => {
+            let t = by_count(c, m, registers, w);
+            plans::compute(c, m, w / layout::FLAG % 2, Operation::Shl, t)
+        },
+        actions::ROTR => {
+            let t = by_register(c, m, registers, w);
+            plans::compute(c, m, w / layout::FLAG % 2, Operation::Rotr, t)
+        },
+        actions::ROTL => {
+            let t = by_register(c, m, registers, w);
+            plans::compute(c, m, w / layout::FLAG % 2, Operation::Rotl, t)
+        },
+        actions::SHL16 => {
+            let t = by_register(c, m, registers, w);
+            plans::compute(c, m, w / layout::FLAG % 2, Operation::Shl16, t)
+        },
+        actions::ABS => {
+            let t = by_register(c, m, registers, w);
+            plans::compute(c, m, w / layout::FLAG % 2, Operation::Abs, t)
+        },
+        actions::CLZ => {
+            let t = by_register(c, m, registers, w);
+            plans::compute(c, m, w / layout::FLAG % 2, Operation::Clz, t)
+        },
+        actions::BST => {
+            let t = by_register(c, m, registers, w);
+            plans::compute(
+                c,
+                m,
+                w / layout::FLAG % 2,
+                Operation::Bst(w / layout::NUMBER % layout::BYTE_NUMBERS),
+                t,
+            )
+        },
+        actions::BLD => {
+            let t = by_register(c, m, registers, w);
+            plans::compute(
+                c,
+                m,
+                w / layout::FLAG % 2,
+                Operation::Bld(w / layout::NUMBER % layout::BYTE_NUMBERS),
+                t,
+            )
+        },
+        actions::BLDS => {
+            let t = by_register(c, m, registers, w);
+            plans::compute(
+                c,
+                m,
+                w / layout::FLAG % 2,
+                Operation::Blds(w / layout::NUMBER % layout::BYTE_NUMBERS),
+                t,
+            )
+        },
         actions::LDYX => plans::load_index(
             m,
             w / layout::FLAG % 2,

@@ -4,10 +4,12 @@ use lib.Dec.{eqb}
 use Rattle.laws.specs.Choice.{pick}
 use Rattle.words.specs.declared.Config.{Config}
 use Rattle.words.specs.declared.Operation.{Operation}
+use Rattle.arith.specs.declared.Word.{Word}
 use Rattle.state.specs.declared.Core.{Core}
 use Rattle.state.specs.declared.Change.{Change}
 use Rattle.state.specs.Cores.{at, posting, flagged, indexed, moved, toRegister}
 use Rattle.state.specs.Plans.{alu}
+use Rattle.plans.specs.declared.Operands.{Operands}
 
 -- one more, in 64 bits
 unfoldable pub up : ℕ → ℕ
@@ -25,10 +27,16 @@ onward m = went m (up (m .pc))
 unfoldable pub further : Config → Core → Core
 further c m = indexed m (pick (eqb (up (m .rx)) (c .regsize)) 0 (up (m .rx))) (m .ry)
 
--- the result of operation o on d and x to the register at cell i with its flags, and the flags alone
-unfoldable pub computed : Config → Core → ℕ → Operation → ℕ → ℕ → ℕ → Change
-computed c m bit26 o i d x =
-    toRegister (flagged (onward m) bit26 (alu c o d x (m .n) .z) (alu c o d x (m .n) .n)) i (alu c o d x (m .n) .value)
+abbrev pub operands : ℕ → ℕ → ℕ → Operands
+operands at d x = record { at = at; d = d; x = x }
 
-unfoldable pub compared : Config → Core → ℕ → Operation → ℕ → ℕ → Change
-compared c m bit26 o d x = moved (flagged (onward m) bit26 (alu c o d x (m .n) .z) (alu c o d x (m .n) .n))
+-- the result of operation o to the destination with its flags, and the flags alone
+abbrev result : Config → Core → Operation → Operands → Word
+result c m o t = alu c o (t .d) (t .x) (m .n)
+
+unfoldable pub computed : Config → Core → ℕ → Operation → Operands → Change
+computed c m bit26 o t =
+    toRegister (flagged (onward m) bit26 (result c m o t .z) (result c m o t .n)) (t .at) (result c m o t .value)
+
+unfoldable pub compared : Config → Core → ℕ → Operation → Operands → Change
+compared c m bit26 o t = moved (flagged (onward m) bit26 (result c m o t .z) (result c m o t .n))

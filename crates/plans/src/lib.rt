@@ -32,3 +32,11 @@ pub use values::immediate_in;
 pub use values::special_register;
 pub use values::top_of;
 pub use values::value_at;
+
+// What an ALU instruction computes with: the cell of its destination register, that register's value,
+// and the second operand.
+pub struct Operands {
+    pub at: usize,
+    pub d: u32,
+    pub x: u32,
+}

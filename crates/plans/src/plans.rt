@@ -13,6 +13,7 @@ ghost use Rattle.state.specs.Cores.{posting, flagged, indexed, multiplied, deep
 ghost use Rattle.state.specs.Operands.{dataAddress, constant, conditionMet};
 ghost use Rattle.state.specs.Plans.{product, withTopBit};
 ghost use Rattle.plans.specs.Values.{up, went, onward, further, computed, compared};
+use crate::Operands;
 use crate::context;
 use crate::values::condition_met;
 use crate::values::cut;
@@ -48,26 +49,26 @@ pub fn skip(m: Core) -> Change
 }
 
 // The result to a register, and the flags.
-pub fn compute(c: Config, m: Core, bit26: u32, o: Operation, i: usize, d: u32, x: u32) -> Change
-    ensures { λ r. ⌜ r ≡ computed c m bit26 o i d x ⌝ }
+pub fn compute(c: Config, m: Core, bit26: u32, o: Operation, t: Operands) -> Change
+    ensures { λ r. ⌜ r ≡ computed c m bit26 o t ⌝ }
 {
-    let w = arith::alu(c.regwidth, o, d, x, m.n);
-    next(m).flagged(bit26, w.z, w.n).to_register(i, w.value)
+    let w = arith::alu(c.regwidth, o, t.d, t.x, m.n);
+    next(m).flagged(bit26, w.z, w.n).to_register(t.at, w.value)
 }
 
 // The flags alone.
-pub fn compare(c: Config, m: Core, bit26: u32, o: Operation, d: u32, x: u32) -> Change
-    ensures { λ r. ⌜ r ≡ compared c m bit26 o d x ⌝ }
+pub fn compare(c: Config, m: Core, bit26: u32, o: Operation, t: Operands) -> Change
+    ensures { λ r. ⌜ r ≡ compared c m bit26 o t ⌝ }
 {
-    let w = arith::alu(c.regwidth, o, d, x, m.n);
+    let w = arith::alu(c.regwidth, o, t.d, t.x, m.n);
     next(m).flagged(bit26, w.z, w.n).moved()
 }
 
-pub fn multiply(c: Config, m: Core, i: usize, d: u32, x: u32) -> Change
-    ensures { λ r. ⌜ r ≡ toRegister (multiplied (onward m) (product c d x .high)) i (product c d x .value) ⌝ }
+pub fn multiply(c: Config, m: Core, t: Operands) -> Change
+    ensures { λ r. ⌜ r ≡ toRegister (multiplied (onward m) (product c (t .d) (t .x) .high)) (t .at) (product c (t .d) (t .x) .value) ⌝ }
 {
-    let p = arith::mul(c.regwidth, d, x);
-    next(m).multiplied(p.high as u64).to_register(i, p.value)
+    let p = arith::mul(c.regwidth, t.d, t.x);
+    next(m).multiplied(p.high as u64).to_register(t.at, p.value)
 }
 
 // LDYX: x is RX, y is RY.

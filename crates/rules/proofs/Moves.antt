@@ -24,7 +24,7 @@ use Rattle.state.specs.declared.Write.{Write}
 use Rattle.state.specs.declared.Change.{Change}
 use Rattle.state.specs.Cores.{at, off, write, moved}
 use Rattle.state.specs.Operands.{View, conditionMet}
-use Rattle.state.specs.Plans.{advanced, M, comparePlan, computePlan, multiplyPlan, loadIndexPlan, indexStorePlan, indexLoadPlan, movePlan, constantPlan, loadRegisterPlan, loadDirectPlan, storeRegisterPlan, storeDirectPlan, portReadPlan, portWritePlan, portModifyPlan, jumpPlan, branchPlan, callPlan, retPlan, retConstantPlan, enterSpecialPlan, leaveSpecialPlan, planOf}
+use Rattle.state.specs.Plans.{advanced, M, comparePlan, computePlan, multiplyPlan, loadIndexPlan, indexStorePlan, indexLoadPlan, movePlan, loadConstantPlan, loadRegisterPlan, loadDirectPlan, storeRegisterPlan, storeDirectPlan, portReadPlan, portWritePlan, portModifyPlan, jumpPlan, branchPlan, callPlan, retPlan, retConstantPlan, enterSpecialPlan, leaveSpecialPlan, planOf}
 use Rattle.rules.specs.Successors.{successor, successors}
 use Rattle.rules.specs.Rules.{modeAfter}
 use Rattle.rules.proofs.Successors.{_∈_, first, second}
@@ -99,7 +99,7 @@ silent z = let x : ⊥ = omega arith in absurd x
 -- whatever the kind
 pub plan-moves : (v : View) (i : Instruction) (k : Kind) → (k ≡ unsupported → ⊥) →
     MovesBy (factsFor k) (i .value) (v .core) (v .stack) (planOf v i k)
-unfolding pick successors factsFor marksOf planOf comparePlan computePlan multiplyPlan loadIndexPlan advanced indexStorePlan indexLoadPlan movePlan constantPlan loadRegisterPlan loadDirectPlan storeRegisterPlan storeDirectPlan portReadPlan portWritePlan portModifyPlan jumpPlan branchPlan callPlan retPlan retConstantPlan enterSpecialPlan leaveSpecialPlan
+unfolding pick successors factsFor marksOf planOf comparePlan computePlan multiplyPlan loadIndexPlan advanced indexStorePlan indexLoadPlan movePlan loadConstantPlan loadRegisterPlan loadDirectPlan storeRegisterPlan storeDirectPlan portReadPlan portWritePlan portModifyPlan jumpPlan branchPlan callPlan retPlan retConstantPlan enterSpecialPlan leaveSpecialPlan
 plan-moves v i unsupported h = absurd (h refl)
 plan-moves v i (compute o x) h = to-successor first silent
 plan-moves v i (compare o x) h = to-successor first silent

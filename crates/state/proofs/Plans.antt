@@ -28,7 +28,7 @@ use Rattle.state.specs.declared.Write.{Write}
 use Rattle.state.specs.State.{Env, State, top, stackLimit}
 use Rattle.state.specs.Cores.{at, flagged, off, write, change, moved, toRegister, toMemory}
 use Rattle.state.specs.Operands.{View, viewOf, cell, register, dataAddress, constant, operand, conditionMet, specialRegister}
-use Rattle.state.specs.Plans.{advanced, contextOf, registerTarget, D, S, X, M, result, comparePlan, computePlan, multiplyPlan, loadIndexPlan, indexCore, indexStorePlan, indexLoadPlan, movePlan, constantPlan, loadRegisterPlan, loadDirectPlan, storeRegisterPlan, storeDirectPlan, portReadPlan, portWritePlan, portModifyPlan, jumpPlan, branched, branchPlan, jumpRegisterPlan, branchRegisterPlan, called, callPlan, callRegisterPlan, newest, returned, retPlan, retConstantPlan, enterBankPlan, leaveBankPlan, enterSpecialPlan, leaveSpecialPlan, planOf}
+use Rattle.state.specs.Plans.{advanced, contextOf, registerTarget, D, S, X, M, result, comparePlan, computePlan, multiplyPlan, loadIndexPlan, indexCore, indexStorePlan, indexLoadPlan, movePlan, loadConstantPlan, loadRegisterPlan, loadDirectPlan, storeRegisterPlan, storeDirectPlan, portReadPlan, portWritePlan, portModifyPlan, jumpPlan, branched, branchPlan, jumpRegisterPlan, branchRegisterPlan, called, callPlan, callRegisterPlan, newest, returned, retPlan, retConstantPlan, enterBankPlan, leaveBankPlan, enterSpecialPlan, leaveSpecialPlan, planOf}
 use Rattle.state.specs.Stops.{stops9to15, partsAt, kindAt}
 use Rattle.state.specs.Step.{putOf, planAt}
 use Rattle.state.proofs.Ranges.{Bounds, bounds, top-byte, Indices, InBank, Posted, Ranged, Good}
@@ -216,9 +216,9 @@ module _ (e : Env) (s : State) (g : Good e s) where
         (λ u. register-word (i .source)))
         (assigned k)
 
-    constant-sound : (f : Form) → T (is (r .destination) register-part) → Sound e s (constantPlan v i f)
-    unfolding constantPlan
-    constant-sound f k = register-sound onward refl (constant-word _ _) (assigned k)
+    load-constant-sound : (f : Form) → T (is (r .destination) register-part) → Sound e s (loadConstantPlan v i f)
+    unfolding loadConstantPlan
+    load-constant-sound f k = register-sound onward refl (constant-word _ _) (assigned k)
 
     load-register-sound : T (is (r .destination) register-part) → Sound e s (loadRegisterPlan v i)
     unfolding loadRegisterPlan
@@ -285,13 +285,13 @@ module _ (e : Env) (s : State) (g : Good e s) where
           zeros = rw (add-one (s .core .depth)) (below-above 1 (s .stack) (s .core .depth) (s .core .pc + 1) (g .zeros));
         }
 
-    return-sound : {reg : Write} →
+    ret-sound : {reg : Write} →
         0 < s .core .depth →
         Small (top c) reg →
         Inside (c .rmsize) reg →
         Sound e s (change (returned v i) reg off (write (newest v i) 0) off off)
     unfolding putOf pick
-    return-sound d q l =
+    ret-sound d q l =
         let n = newest v i in
         let u : suc n ≡ s .core .depth = omega arith in
         record {
@@ -365,7 +365,7 @@ module _ (e : Env) (s : State) (g : Good e s) where
     by-kind index-store p q = index-store-sound (q .1 .1 .1 .1 .0 .1 tt)
     by-kind index-load p q = index-load-sound
     by-kind move p q = move-sound p
-    by-kind (load-constant f) p q = constant-sound f p
+    by-kind (load-constant f) p q = load-constant-sound f p
     by-kind load-register p q = load-register-sound p
     by-kind load-direct p q = load-direct-sound p
     by-kind store-register p q = store-register-sound (q .1 .1 .1 .1 .0 .1 tt)
@@ -379,8 +379,8 @@ module _ (e : Env) (s : State) (g : Good e s) where
     by-kind (branch-register k) p q = branch-sound k (registerTarget (D v i)) register-target
     by-kind call p q = call-sound (i .value) (q .1 .0 tt) (a-target c (r .value) (i .value) p fits-value)
     by-kind call-register p q = call-sound (registerTarget (D v i)) (q .1 .0 tt) register-target
-    by-kind ret p q = return-sound (q .1 .1 .0 tt) no-write nowhere
-    by-kind ret-constant p q = return-sound (q .1 .1 .0 tt) (wrote (constant-word _ _)) (landed (assigned p))
+    by-kind ret p q = ret-sound (q .1 .1 .0 tt) no-write nowhere
+    by-kind ret-constant p q = ret-sound (q .1 .1 .0 tt) (wrote (constant-word _ _)) (landed (assigned p))
     by-kind enter-bank p q =
         enter-bank-sound (an-entry c (r .value) (i .value) (p .0) fits-value) (q .1 .1 .1 .0 .0 tt) (with-banks c (r .option) (p .1) (t .option))
     by-kind leave-bank p q = leave-bank-sound (q .1 .1 .1 .0 .1 tt)

@@ -1,20 +1,16 @@
 -- The core after one small change: what a step is put together from. The methods of Core hand these back.
 use Prim.Native.Nat.{ℕ, _+_, _-_}
 use lib.Dec.{eqb}
-use Rattle.laws.specs.Choice.{pick, decided}
+use Rattle.laws.specs.Choice.{pick, decided, swapped}
 use Rattle.state.specs.declared.Core.{Core}
 use Rattle.state.specs.declared.Write.{Write}
 use Rattle.state.specs.declared.Change.{Change}
-use mathlib.Core.Bool.{Bool, true, false}
+use mathlib.Core.Bool.{true, false}
 
 -- the parts of a core, and a core with one of them changed
 pub data Place : Type 0 where
   PC WP RX RY N Z SPR7 DEPTH IMASK SAVED MODE POSTED PORT TAKEN LOGGED : Place
   deriving Discrete as Place-discrete
-
-abbrev swapped : Bool → ℕ → ℕ → ℕ
-swapped true x y = x
-swapped false x y = y
 
 infixl 5 _but_≔_
 abbrev pub _but_≔_ : Core → Place → ℕ → Core

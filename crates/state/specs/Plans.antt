@@ -98,8 +98,8 @@ module _ (v : View) (i : Instruction) where
   movePlan =
       toRegister M (cell v (i .destination)) (pick (eqb (v .core .mode) 1) (specialRegister (v .config) (v .core .spr7) (i .source)) S)
 
-  unfoldable pub constantPlan : Form → Change
-  constantPlan f = toRegister M (cell v (i .destination)) (constant (v .config) f (i .value))
+  unfoldable pub loadConstantPlan : Form → Change
+  loadConstantPlan f = toRegister M (cell v (i .destination)) (constant (v .config) f (i .value))
 
   unfoldable pub loadRegisterPlan : Change
   loadRegisterPlan = toRegister M (cell v (i .destination)) (getD (v .memory) (dataAddress S) 0)
@@ -206,7 +206,7 @@ module _ (v : View) (i : Instruction) where
   planOf index-store = indexStorePlan
   planOf index-load = indexLoadPlan
   planOf move = movePlan
-  planOf (load-constant f) = constantPlan f
+  planOf (load-constant f) = loadConstantPlan f
   planOf load-register = loadRegisterPlan
   planOf load-direct = loadDirectPlan
   planOf store-register = storeRegisterPlan

@@ -18,7 +18,7 @@ use Rattle.words.specs.Numbers.{RET, RETWP, RETI, SPR-OFF, SPR-ON, IRQM-
 abbrev pub index : ℕ  -- level 2 with 25-23 = 000: bits 15-8 choose
 index = 240
 
-abbrev pub upper-bytes : ℕ  -- level 2 with another byte number: bits 15-8 choose
+abbrev pub upper-bytes : ℕ  -- level 2 with byte number 1 to 3: bits 15-8 choose
 upper-bytes = 241
 
 abbrev pub port : ℕ  -- MOVIO that reads: bit 15 chooses

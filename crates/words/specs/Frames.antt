@@ -1,7 +1,6 @@
 -- What the parts of a word hold, by the kind of its row: document 01, 'Words', and the main frames of
 -- manual 5.17.1. Written by tools/rows.
-use mathlib.Core.Bool.{Bool, true, false}
-use Rattle.laws.specs.Choice.{decided}
+use Rattle.laws.specs.Choice.{decided, swapped}
 use Rattle.words.specs.Parts.{Part, unused, flag, byte, register, unit, immediate, read-address, write-address, target, count, bank-address, short}
 use Rattle.words.specs.Kinds.{Operand, from-register, literal, short-literal, counted}
 use Rattle.words.specs.Kinds.{Kind, unsupported, compute, compare, multiply, bytewise, load-index, index-store, index-load, move, load-constant, load-register, load-direct, store-register, store-direct, port-read, port-modify, port-write, jump, branch, jump-register, branch-register, call, call-register, ret, ret-constant, enter-bank, leave-bank, enter-special, leave-special}
@@ -18,10 +17,6 @@ pub record Frame : Type 0 where
 pub data Column : Type 0 where
   FLAG NUMBER DESTINATION SOURCE VALUE : Column
   deriving Discrete as Column-discrete
-
-abbrev swapped : Bool → Part → Part → Part
-swapped true p q = p
-swapped false p q = q
 
 -- no part is used
 abbrev pub bare : Frame

@@ -1,4 +1,5 @@
--- The tables that code holds: the classes, the rows' bases, and the rows' other columns packed into one number each.
+-- The tables that code holds: the classes, the rows' bases, and the rows' other columns packed into one
+-- number each. Nothing here is to be believed: proofs/Packed.antt ties it to Rows and Words.
 use Prim.Native.Nat.{ℕ, _+_, _*_, _/_, _%_, _^_}
 use mathlib.Core.Path.{_≡_}
 use mathlib.Core.Bool.{Bool}

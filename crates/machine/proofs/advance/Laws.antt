@@ -22,7 +22,7 @@ use Rattle.state.specs.declared.Change.{Change}
 use Rattle.state.specs.State.{Env, State, stackLimit}
 use Rattle.state.specs.Cores.{stopped}
 use Rattle.state.specs.Operands.{View, viewOf}
-use Rattle.state.specs.Plans.{contextOf, comparePlan, computePlan, multiplyPlan, loadIndexPlan, indexStorePlan, indexLoadPlan, movePlan, constantPlan, loadRegisterPlan, loadDirectPlan, storeRegisterPlan, storeDirectPlan, portReadPlan, portWritePlan, portModifyPlan, jumpPlan, branchPlan, jumpRegisterPlan, branchRegisterPlan, callPlan, callRegisterPlan, retPlan, retConstantPlan, enterBankPlan, leaveBankPlan, enterSpecialPlan, leaveSpecialPlan, planOf}
+use Rattle.state.specs.Plans.{contextOf, comparePlan, computePlan, multiplyPlan, loadIndexPlan, indexStorePlan, indexLoadPlan, movePlan, loadConstantPlan, loadRegisterPlan, loadDirectPlan, storeRegisterPlan, storeDirectPlan, portReadPlan, portWritePlan, portModifyPlan, jumpPlan, branchPlan, jumpRegisterPlan, branchRegisterPlan, callPlan, callRegisterPlan, retPlan, retConstantPlan, enterBankPlan, leaveBankPlan, enterSpecialPlan, leaveSpecialPlan, planOf}
 use Rattle.state.specs.Stops.{stops9to15, partsAt, kindAt, factsAt, stops}
 use Rattle.state.specs.Step.{number, applied, planAt, cyclesOf, Outcome, refused, advanceOf}
 use Rattle.state.proofs.Ranges.{Good, bounds}
@@ -58,7 +58,7 @@ not-zero OutOfRange e = omega arith
 
 -- no plan is a stop
 plan-stops : (v : View) (i : Instruction) (k : Kind) → planOf v i k .stop ≡ 0
-unfolding planOf comparePlan computePlan multiplyPlan loadIndexPlan indexStorePlan indexLoadPlan movePlan constantPlan loadRegisterPlan loadDirectPlan storeRegisterPlan storeDirectPlan portReadPlan portWritePlan portModifyPlan jumpPlan branchPlan jumpRegisterPlan branchRegisterPlan callPlan callRegisterPlan retPlan retConstantPlan enterBankPlan leaveBankPlan enterSpecialPlan leaveSpecialPlan
+unfolding planOf comparePlan computePlan multiplyPlan loadIndexPlan indexStorePlan indexLoadPlan movePlan loadConstantPlan loadRegisterPlan loadDirectPlan storeRegisterPlan storeDirectPlan portReadPlan portWritePlan portModifyPlan jumpPlan branchPlan jumpRegisterPlan branchRegisterPlan callPlan callRegisterPlan retPlan retConstantPlan enterBankPlan leaveBankPlan enterSpecialPlan leaveSpecialPlan
 plan-stops v i unsupported = refl
 plan-stops v i (compute o x) = refl
 plan-stops v i (compare o x) = refl

@@ -25,9 +25,10 @@ use Rattle.state.specs.Cores.{posting, flagged, indexed, multiplied, deep, mask
 use Rattle.laws.specs.Test.{imp}
 use Rattle.state.specs.Operands.{View, cell, register, dataAddress, constant, operand, conditionMet}
 use Rattle.state.specs.Plans.{product, advanced, withTopBit, contextOf, registerTarget, comparePlan, computePlan, planOf}
-use Rattle.state.specs.Plans.{multiplyPlan, loadIndexPlan, indexStorePlan, indexLoadPlan, movePlan, constantPlan, loadRegisterPlan, loadDirectPlan, storeRegisterPlan, storeDirectPlan, portReadPlan, portModifyPlan, portWritePlan, jumpPlan, branchPlan, jumpRegisterPlan, branchRegisterPlan, callPlan, callRegisterPlan, retPlan, retConstantPlan, enterBankPlan, leaveBankPlan, enterSpecialPlan, leaveSpecialPlan}
+use Rattle.state.specs.Plans.{multiplyPlan, loadIndexPlan, indexStorePlan, indexLoadPlan, movePlan, loadConstantPlan, loadRegisterPlan, loadDirectPlan, storeRegisterPlan, storeDirectPlan, portReadPlan, portModifyPlan, portWritePlan, jumpPlan, branchPlan, jumpRegisterPlan, branchRegisterPlan, callPlan, callRegisterPlan, retPlan, retConstantPlan, enterBankPlan, leaveBankPlan, enterSpecialPlan, leaveSpecialPlan}
 use Rattle.state.specs.Stops.{stops9to15}
-use Rattle.plans.specs.Values.{up, went, onward, further, computed, compared}
+use Rattle.plans.specs.declared.Operands.{Operands}
+use Rattle.plans.specs.Values.{operands, up, went, onward, further, computed, compared}
 use Rattle.machine.specs.Exec.{movedValue, act, Small}
 
 -- a test whose other half holds
@@ -114,20 +115,20 @@ module _ (v : View) (i : Instruction) (e w b : ℕ) {at d s : ℕ}
 
   computing-is : {r : Change} → (o : Operation) {x : ℕ} {y : Operand} → K ≡ compute o y → reads flag′ b → reads destination′ b →
       x ≡ operand (v .config) y (register v (i .source)) (i .value) →
-      r ≡ computed (v .config) (v .core) (w / 0x4000000 % 2) o at d x → r ≡ act v i (entryKind e)
+      r ≡ computed (v .config) (v .core) (w / 0x4000000 % 2) o (operands at d x) → r ≡ act v i (entryKind e)
   unfolding act stops9to15 planOf computePlan computed factsFor marksOf pick
   computing-is o k f t x-is q = entered (q ∙ rw (pc-is, k, flag-is f, at-is t, d-is t, x-is))
 
   -- a byte operation, of the byte number
   bytes-is : {r : Change} → (o : ℕ → Operation) {x : ℕ} {n : Operation} → K ≡ bytewise o → reads flag′ b → reads destination′ b → o (i .number) ≡ n →
       x ≡ operand (v .config) from-register (register v (i .source)) (i .value) →
-      r ≡ computed (v .config) (v .core) (w / 0x4000000 % 2) n at d x → r ≡ act v i (entryKind e)
+      r ≡ computed (v .config) (v .core) (w / 0x4000000 % 2) n (operands at d x) → r ≡ act v i (entryKind e)
   unfolding act stops9to15 planOf computePlan computed factsFor marksOf pick
   bytes-is o k f t op x-is q = entered (q ∙ rw (pc-is, k, flag-is f, ← op, at-is t, d-is t, x-is))
 
   comparing-is : {r : Change} → (o : Operation) {x : ℕ} {y : Operand} → K ≡ compare o y → reads flag′ b → reads destination′ b →
       x ≡ operand (v .config) y (register v (i .source)) (i .value) →
-      r ≡ compared (v .config) (v .core) (w / 0x4000000 % 2) o d x → r ≡ act v i (entryKind e)
+      r ≡ compared (v .config) (v .core) (w / 0x4000000 % 2) o (operands at d x) → r ≡ act v i (entryKind e)
   unfolding act stops9to15 planOf comparePlan compared factsFor marksOf pick
   comparing-is o k f t x-is q = entered (q ∙ rw (pc-is, k, flag-is f, d-is t, x-is))
 
@@ -155,9 +156,9 @@ module _ (v : View) (i : Instruction) (e w b : ℕ) {at d s : ℕ}
   unfolding act stops9to15 planOf factsFor marksOf pick movePlan movedValue
   move-is k t u y-is x-is q = entered (q ∙ rw (pc-is, k, x-is, at-is t, y-is ∙ sym (p .source u), s-is u))
 
-  constant-is : {r : Change} → {x : ℕ} {f : Form} → K ≡ load-constant f → reads destination′ b → x ≡ operand (v .config) (literal f) (register v (i .source)) (i .value) → r ≡ toRegister (onward (v .core)) at x → r ≡ act v i (entryKind e)
-  unfolding act stops9to15 planOf factsFor marksOf pick constantPlan operand
-  constant-is k t x-is q = entered (q ∙ rw (pc-is, k, at-is t, x-is))
+  load-constant-is : {r : Change} → {x : ℕ} {f : Form} → K ≡ load-constant f → reads destination′ b → x ≡ operand (v .config) (literal f) (register v (i .source)) (i .value) → r ≡ toRegister (onward (v .core)) at x → r ≡ act v i (entryKind e)
+  unfolding act stops9to15 planOf factsFor marksOf pick loadConstantPlan operand
+  load-constant-is k t x-is q = entered (q ∙ rw (pc-is, k, at-is t, x-is))
 
   pub load-register-is : {r : Change} → {l : ℕ} → K ≡ load-register → reads destination′ b → reads source′ b → l ≡ v .config .dmsize →
       r ≡ pick (ltb (dataAddress s) l) (toRegister (onward (v .core)) at (getD (v .memory) (dataAddress s) 0)) (stopped (v .core) 13) → r ≡ act v i (entryKind e)
@@ -218,14 +219,14 @@ module _ (v : View) (i : Instruction) (e w b : ℕ) {at d s : ℕ}
   unfolding act stops9to15 planOf factsFor marksOf pick callRegisterPlan
   call-register-is k t l-is q = entered (q ∙ rw (back-is, k, d-is t, l-is))
 
-  pub return-is : {r : Change} → K ≡ ret → r ≡ pick (ltb 0 (v .core .depth)) (toStack (deep (went (v .core) (getD (v .stack) (v .core .depth - 1) 0)) (v .core .depth - 1)) (v .core .depth - 1) 0) (stopped (v .core) 11) → r ≡ act v i (entryKind e)
+  pub ret-is : {r : Change} → K ≡ ret → r ≡ pick (ltb 0 (v .core .depth)) (toStack (deep (went (v .core) (getD (v .stack) (v .core .depth - 1) 0)) (v .core .depth - 1)) (v .core .depth - 1) 0) (stopped (v .core) 11) → r ≡ act v i (entryKind e)
   unfolding act stops9to15 planOf factsFor marksOf pick retPlan
-  return-is k q = entered (q ∙ rw (k))
+  ret-is k q = entered (q ∙ rw (k))
 
-  pub return-constant-is : {r : Change} → K ≡ ret-constant → reads destination′ b → reads value′ b →
+  pub ret-constant-is : {r : Change} → K ≡ ret-constant → reads destination′ b → reads value′ b →
       r ≡ pick (ltb 0 (v .core .depth)) (change (deep (went (v .core) (getD (v .stack) (v .core .depth - 1) 0)) (v .core .depth - 1)) (write at (constant (v .config) Signed (w % 65536))) no-write (write (v .core .depth - 1) 0) no-write no-write) (stopped (v .core) 11) → r ≡ act v i (entryKind e)
   unfolding act stops9to15 planOf factsFor marksOf pick retConstantPlan
-  return-constant-is k t u q = entered (q ∙ rw (k, at-is t, value-is u))
+  ret-constant-is k t u q = entered (q ∙ rw (k, at-is t, value-is u))
 
   pub enter-bank-is : {r : Change} → {x : ℕ} → K ≡ enter-bank → reads unit′ b → reads value′ b → x ≡ contextOf (v .core) →
       r ≡ pick (leb (16 * (w / 65536 % 128) + v .config .regsize) (v .config .rmsize)) (toRegister (banked (went (v .core) (w % 65536)) (16 * (w / 65536 % 128))) (16 * (w / 65536 % 128)) x) (stopped (v .core) 12) → r ≡ act v i (entryKind e)
@@ -245,43 +246,52 @@ module _ (v : View) (i : Instruction) (e w b : ℕ) {at d s : ℕ}
   unfolding act stops9to15 planOf factsFor marksOf pick leaveSpecialPlan
   leave-special-is k q = entered (q ∙ rw (pc-is, k))
 
-  -- the same, with the operand from where the action has it: what the arms cite, so that none writes the view out
+  -- the same, with the operands t from where the action has them: what the arms cite, so that none writes the view out
 
-  pub computing-source : {r : Change} (o : Operation) → K ≡ compute o from-register → reads flag′ b → reads destination′ b → reads source′ b →
-      r ≡ computed (v .config) (v .core) (w / 0x4000000 % 2) o at d s → r ≡ act v i (entryKind e)
-  computing-source o k f t u q = computing-is o k f t (source-is u) q
+  abbrev C : Operation → Operands → Change
+  C o t = computed (v .config) (v .core) (w / 0x4000000 % 2) o t
 
-  pub computing-immediate : {r : Change} (o : Operation) {x : ℕ} {g : Form} → K ≡ compute o (literal g) → reads flag′ b → reads destination′ b → reads value′ b →
-      x ≡ constant (v .config) g (w % 65536) → r ≡ computed (v .config) (v .core) (w / 0x4000000 % 2) o at d x → r ≡ act v i (entryKind e)
-  computing-immediate o {g = g} k f t u x-is q = computing-is o k f t (immediate-is g u x-is) q
+  abbrev F : Operation → Operands → Change
+  F o t = compared (v .config) (v .core) (w / 0x4000000 % 2) o t
 
-  pub computing-count : {r : Change} (o : Operation) → K ≡ compute o counted → reads flag′ b → reads destination′ b → reads value′ b →
-      r ≡ computed (v .config) (v .core) (w / 0x4000000 % 2) o at d (w % 65536) → r ≡ act v i (entryKind e)
-  computing-count o k f t u q = computing-is o k f t (count-is u) q
+  abbrev P : Operands → Change
+  P t = toRegister (multiplied (onward (v .core)) (product (v .config) (t .d) (t .x) .high)) (t .at) (product (v .config) (t .d) (t .x) .value)
 
-  pub bytes-source : {r : Change} (o : ℕ → Operation) {n : Operation} → K ≡ bytewise o → reads flag′ b → reads destination′ b → o (i .number) ≡ n → reads source′ b →
-      r ≡ computed (v .config) (v .core) (w / 0x4000000 % 2) n at d s → r ≡ act v i (entryKind e)
-  bytes-source o k f t op u q = bytes-is o k f t op (source-is u) q
+  pub computing-source : {r : Change} {y : Operands} (o : Operation) → K ≡ compute o from-register → reads flag′ b → reads destination′ b → reads source′ b →
+      y ≡ operands at d s → r ≡ C o y → r ≡ act v i (entryKind e)
+  computing-source o k f t u z q = computing-is o k f t (source-is u) (q ∙ ap (C o) z)
 
-  pub comparing-source : {r : Change} (o : Operation) → K ≡ compare o from-register → reads flag′ b → reads destination′ b → reads source′ b →
-      r ≡ compared (v .config) (v .core) (w / 0x4000000 % 2) o d s → r ≡ act v i (entryKind e)
-  comparing-source o k f t u q = comparing-is o k f t (source-is u) q
+  pub computing-immediate : {r : Change} {y : Operands} (o : Operation) {g : Form} → K ≡ compute o (literal g) → reads flag′ b → reads destination′ b →
+      reads value′ b → y ≡ operands at d (constant (v .config) g (w % 65536)) → r ≡ C o y → r ≡ act v i (entryKind e)
+  computing-immediate o {g = g} k f t u z q = computing-is o k f t (immediate-is g u refl) (q ∙ ap (C o) z)
 
-  pub comparing-immediate : {r : Change} (o : Operation) {x : ℕ} {g : Form} → K ≡ compare o (literal g) → reads flag′ b → reads destination′ b → reads value′ b →
-      x ≡ constant (v .config) g (w % 65536) → r ≡ compared (v .config) (v .core) (w / 0x4000000 % 2) o d x → r ≡ act v i (entryKind e)
-  comparing-immediate o {g = g} k f t u x-is q = comparing-is o k f t (immediate-is g u x-is) q
+  pub computing-count : {r : Change} {y : Operands} (o : Operation) → K ≡ compute o counted → reads flag′ b → reads destination′ b → reads value′ b →
+      y ≡ operands at d (w % 65536) → r ≡ C o y → r ≡ act v i (entryKind e)
+  computing-count o k f t u z q = computing-is o k f t (count-is u) (q ∙ ap (C o) z)
 
-  pub multiply-source : {r : Change} → K ≡ multiply from-register → reads destination′ b → reads source′ b →
-      r ≡ toRegister (multiplied (onward (v .core)) (product (v .config) d s .high)) at (product (v .config) d s .value) → r ≡ act v i (entryKind e)
-  multiply-source k t u q = multiply-is k t (source-is u) q
+  pub bytes-source : {r : Change} {y : Operands} (o : ℕ → Operation) {n : Operation} → K ≡ bytewise o → reads flag′ b → reads destination′ b →
+      o (i .number) ≡ n → reads source′ b → y ≡ operands at d s → r ≡ C n y → r ≡ act v i (entryKind e)
+  bytes-source o {n = n} k f t op u z q = bytes-is o k f t op (source-is u) (q ∙ ap (C n) z)
 
-  pub multiply-immediate : {r : Change} {x : ℕ} {g : Form} → K ≡ multiply (literal g) → reads destination′ b → reads value′ b → x ≡ constant (v .config) g (w % 65536) →
-      r ≡ toRegister (multiplied (onward (v .core)) (product (v .config) d x .high)) at (product (v .config) d x .value) → r ≡ act v i (entryKind e)
-  multiply-immediate {g = g} k t u x-is q = multiply-is k t (immediate-is g u x-is) q
+  pub comparing-source : {r : Change} {y : Operands} (o : Operation) → K ≡ compare o from-register → reads flag′ b → reads destination′ b → reads source′ b →
+      y ≡ operands at d s → r ≡ F o y → r ≡ act v i (entryKind e)
+  comparing-source o k f t u z q = comparing-is o k f t (source-is u) (q ∙ ap (F o) z)
+
+  pub comparing-immediate : {r : Change} {y : Operands} (o : Operation) {g : Form} → K ≡ compare o (literal g) → reads flag′ b → reads destination′ b →
+      reads value′ b → y ≡ operands at d (constant (v .config) g (w % 65536)) → r ≡ F o y → r ≡ act v i (entryKind e)
+  comparing-immediate o {g = g} k f t u z q = comparing-is o k f t (immediate-is g u refl) (q ∙ ap (F o) z)
+
+  pub multiply-source : {r : Change} {y : Operands} → K ≡ multiply from-register → reads destination′ b → reads source′ b →
+      y ≡ operands at d s → r ≡ P y → r ≡ act v i (entryKind e)
+  multiply-source k t u z q = multiply-is k t (source-is u) (q ∙ ap P z)
+
+  pub multiply-immediate : {r : Change} {y : Operands} {g : Form} → K ≡ multiply (literal g) → reads destination′ b → reads value′ b →
+      y ≡ operands at d (constant (v .config) g (w % 65536)) → r ≡ P y → r ≡ act v i (entryKind e)
+  multiply-immediate {g = g} k t u z q = multiply-is k t (immediate-is g u refl) (q ∙ ap P z)
 
   pub constant-immediate : {r : Change} {x : ℕ} {g : Form} → K ≡ load-constant g → reads destination′ b → reads value′ b → x ≡ constant (v .config) g (w % 65536) →
       r ≡ toRegister (onward (v .core)) at x → r ≡ act v i (entryKind e)
-  constant-immediate {g = g} k t u x-is q = constant-is k t (immediate-is g u x-is) q
+  constant-immediate {g = g} k t u x-is q = load-constant-is k t (immediate-is g u x-is) q
 
   pub port-write-source : {r : Change} → K ≡ port-write from-register → reads destination′ b → reads source′ b →
       r ≡ pick (ltb (v .core .logged) (v .room)) (toLog (posting (logging (onward (v .core))) 1 d) (v .core .logged) d s) (stopped (v .core) 15) → r ≡ act v i (entryKind e)

@@ -1,8 +1,7 @@
 -- What the code of src/single.rt looks up without a table is what the tables hold.
 -- Assumes nothing.
-use Prim.Native.Nat.{ℕ, zero, suc, _*_, _/_, _%_, _^_, _<_, _≤_}
+use Prim.Native.Nat.{ℕ, _*_, _/_, _%_, _^_, _<_, _≤_}
 use mathlib.Core.Path.{_≡_, sym}
-use native.Mathlib.Omega.{arith}
 use lib.Dec.{T, eqb, eqb→eq}
 use lib.ListN.{getD, List·getD-eq-default}
 use Rattle.laws.specs.Choice.{pick}
@@ -10,15 +9,6 @@ use Rattle.laws.specs.Table.{every, at-every}
 use Rattle.words.specs.Rows.{rows, rowCount}
 use Rattle.words.specs.Classes.{classOf}
 use Rattle.words.specs.Packed.{noPacked, baseTable, rowTable, eightClasses}
-
--- n is none of the numbers below k
-abbrev pub Excluded : ℕ → ℕ → Type 0
-Excluded n zero = Unit {0}
-Excluded n (suc k) = Excluded n k × (n ≡ k → ⊥)
-
-pub excluded : (n k : ℕ) → Excluded n k → k ≤ n
-excluded n zero t = omega arith
-excluded n (suc k) t = let h = excluded n k (t .0) in let e = t .1 in omega (arith, h, e)
 
 -- the byte of eight classes that is the class of key k
 all-bytes : T (every 512 (λ k. eqb (eightClasses (k / 8) / 2 ^ (8 * (k % 8)) % 256) (classOf k)))

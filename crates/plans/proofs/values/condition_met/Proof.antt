@@ -1,8 +1,8 @@
 -- `plans::values::condition_met` meets its contract. Assumes nothing.
-use native.Mathlib.Omega.{arith}
 use Rattle.words.specs.Codes.{conditionAt}
 use Rattle.state.specs.Operands.{conditionMet}
-use Rattle.plans.proofs.Operands.{above, no-condition}
+use Rattle.laws.specs.Table.{excluded}
+use Rattle.plans.proofs.values.Laws.{no-condition}
 use Rattle.plans.proofs.values.condition_met.Statement.{statement}
 use Rattle.plans.proofs.values.condition_met.Tie as tie
 
@@ -35,7 +35,7 @@ unfolding conditionMet conditionAt
 returns-7 c = rw (c .match .keys7)
 
 returns-8 : tie.Need-returns-8
-returns-8 c = no-condition _ _ _ (above 6 _ (above 5 _ (above 4 _ (above 3 _ (above 2 _ (above 1 _ (above 0 _ (omega arith) (c .match .rest .0 .0 .0 .0 .0 .0 .1)) (c .match .rest .0 .0 .0 .0 .0 .1)) (c .match .rest .0 .0 .0 .0 .1)) (c .match .rest .0 .0 .0 .1)) (c .match .rest .0 .0 .1)) (c .match .rest .0 .1)) (c .match .rest .1))
+returns-8 c = no-condition _ _ _ (excluded _ 7 (c .match .rest))
 
 pub condition-met-spec : {M : Type 1} → statement M
 condition-met-spec =

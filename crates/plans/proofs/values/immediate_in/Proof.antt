@@ -1,6 +1,6 @@
 -- `plans::values::immediate_in` meets its contract. Assumes nothing.
 use Rattle.words.specs.Codes.{formAt}
-use Rattle.plans.proofs.Operands.{third-form}
+use Rattle.plans.proofs.values.Laws.{third-form}
 use borrow.Author.Needs.{needs}
 use Rattle.plans.proofs.values.immediate_in.Statement.{statement}
 use Rattle.plans.proofs.values.immediate_in.Tie as tie

@@ -1,6 +1,6 @@
 -- `plans::values::special_register` meets its contract. Assumes nothing.
 use mathlib.Core.Path.{_∙_}
-use Rattle.plans.proofs.Operands.{special-inside, special-beyond}
+use Rattle.plans.proofs.values.Laws.{special-inside, special-beyond}
 use borrow.Author.Needs.{needs}
 use Rattle.plans.proofs.values.special_register.Statement.{statement}
 use Rattle.plans.proofs.values.special_register.Tie as tie

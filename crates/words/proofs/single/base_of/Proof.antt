@@ -2,7 +2,8 @@
 use mathlib.Core.Path.{refl}
 use Rattle.words.specs.Rows.{rows}
 use Rattle.words.specs.Packed.{baseTable}
-use Rattle.words.proofs.single.Laws.{excluded, base-moved, base-past}
+use Rattle.laws.specs.Table.{excluded}
+use Rattle.words.proofs.single.Laws.{base-moved, base-past}
 use Rattle.words.proofs.single.base_of.Statement.{statement}
 use Rattle.words.proofs.single.base_of.Tie as tie
 

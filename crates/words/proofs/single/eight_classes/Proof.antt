@@ -4,7 +4,8 @@ use native.Mathlib.Omega.{arith}
 use Rattle.laws.specs.Choice.{pick}
 use Rattle.words.specs.Classes.{classOf}
 use Rattle.words.specs.Packed.{eightClasses}
-use Rattle.words.proofs.single.Laws.{excluded, classes-moved}
+use Rattle.laws.specs.Table.{excluded}
+use Rattle.words.proofs.single.Laws.{classes-moved}
 use Rattle.words.proofs.single.eight_classes.Statement.{statement}
 use Rattle.words.proofs.single.eight_classes.Tie as tie
 

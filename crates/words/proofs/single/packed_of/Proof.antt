@@ -4,7 +4,8 @@ use Rattle.words.specs.Kinds.{marksOf}
 use Rattle.words.specs.Rows.{rows}
 use Rattle.words.specs.Codes.{partCode, optionCode, weight}
 use Rattle.words.specs.Packed.{packed, rowTable}
-use Rattle.words.proofs.single.Laws.{excluded, packed-moved, packed-past}
+use Rattle.laws.specs.Table.{excluded}
+use Rattle.words.proofs.single.Laws.{packed-moved, packed-past}
 use Rattle.words.proofs.single.packed_of.Statement.{statement}
 use Rattle.words.proofs.single.packed_of.Tie as tie
 
