@@ -1,6 +1,6 @@
 """The tables of rows as code: flat columns of numbers, the same in matches for a single word, the numbers' names, and the C header."""
 from . import lookup
-from .rows import CLASSES, COLUMNS, MARKS, NO_ROW, NUMBER, OPTIONS, PARTS, ROWS, packed
+from .rows import CLASSES, COLUMNS, INDEX, IRQ_SWITCH, MARKS, MISC, NO_ROW, NUMBER, OPTIONS, PARTS, PORT, ROWS, UPPER_BYTES, packed
 from .specs import SPECS, WRITTEN, lines
 
 
@@ -45,6 +45,10 @@ def codes(): return f'''// The numbers of parts, options and marks in a row's pa
 // the weights of the digits, the flag's being the lowest, and of the marks
 
 {constants('u64', [(c + '-digit', f'0x{16 ** n:x}') for n, c in enumerate(COLUMNS + ['option']) if n] + [('marks', '0x1000000')])}
+// the columns of no row: nothing used, never available
+
+pub const NO_ROW: u64 = 0x{OPTIONS.index('never') << 20:x};
+
 // the weights of a mark among the marks
 
 {constants('u64', [(m[0], 1 << n) for n, m in enumerate(MARKS)])}'''
@@ -55,8 +59,10 @@ def actions(): return f'''// The numbers of the actions: kind, operation and ope
 {constants('u32', [(lookup.action_name(a), n) for n, a in enumerate(lookup.ACTIONS)])}'''
 
 
-def classes(): return f'''// The class of a word by its bits 31 to 23 (specs/Classes.antt), an entry a line. {WRITTEN}
+def classes(): return f'''// The class of a word by its bits 31 to 23 (specs/Classes.antt): a row, or one of these. {WRITTEN}
 
+{constants('u32', [('index', INDEX), ('upper-bytes', UPPER_BYTES), ('port', PORT), ('irq-switch', IRQ_SWITCH), ('misc', MISC), ('none', NO_ROW)])}
+// The class of each value, an entry a line.
 pub const CLASSES: [u8; 512] = [
 {entries(CLASSES, '%d')}
 ];

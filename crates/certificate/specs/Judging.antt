@@ -10,8 +10,8 @@ use Rattle.rules.specs.Successors.{Successor, successors}
 
 -- b answers what `rule` says of the successors of a word with facts f, at any address a and with any
 -- target whose marks are n (of next) and t
-abbrev pub Answers : Facts → ℕ → ℕ → Bool → ((ℕ → ℕ) → List Successor → Test) → Type 0
-Answers f n t b rule =
+abbrev pub AnswersRule : Facts → ℕ → ℕ → Bool → ((ℕ → ℕ) → List Successor → Test) → Type 0
+AnswersRule f n t b rule =
     (mark : ℕ → ℕ) (a target : ℕ) → n ≡ mark (a + 1) → t ≡ mark target → b ≡ test (rule mark (successors f a target))
 
 -- the number of the first of eight tests that fails; 0 where none does

@@ -6,7 +6,7 @@ ghost use Rattle.laws.specs.Test.{test, most, yes?, if?};
 ghost use Rattle.rules.specs.Marks.{used, levelOf};
 ghost use Rattle.rules.specs.Successors.{successors};
 ghost use Rattle.rules.specs.Rules.{rule1, rule3, rule4, rule5, rule6, rule7};
-ghost use Rattle.certificate.specs.Judging.{Answers, firstOf};
+ghost use Rattle.certificate.specs.Judging.{AnswersRule, firstOf};
 use words::Facts;
 
 // x where b holds, else y.
@@ -41,7 +41,7 @@ fn rule_4(size: usize, next: usize, target: usize, f: Facts, n: u32, t: u32) -> 
 }
 
 fn rule_5(f: Facts, x: u32, n: u32, t: u32) -> bool
-    ensures { λ o. ⌜ Answers f n t o (λ mark ss. rule5 mark ss f x) ⌝ }
+    ensures { λ o. ⌜ AnswersRule f n t o (λ mark ss. rule5 mark ss f x) ⌝ }
 {
     ((!f.next | (n / 64 % 2 == x / 64 % 2))
         & (!f.target | (t / 64 % 2 == choose(f.calls, 1, x / 64 % 2))))
@@ -49,14 +49,14 @@ fn rule_5(f: Facts, x: u32, n: u32, t: u32) -> bool
 }
 
 fn rule_6(f: Facts, x: u32, n: u32, t: u32) -> bool
-    ensures { λ o. ⌜ Answers f n t o (λ mark ss. rule6 mark ss x) ⌝ }
+    ensures { λ o. ⌜ AnswersRule f n t o (λ mark ss. rule6 mark ss x) ⌝ }
 {
     (!f.next | (n % 64 <= x % 64))
         & (!f.target | ((t % 64 <= x % 64) & (!f.calls | (t % 64 < x % 64))))
 }
 
 fn rule_7(f: Facts, source: u32, x: u32, n: u32, t: u32) -> bool
-    ensures { λ o. ⌜ Answers f n t o (λ mark ss. rule7 mark ss f source x) ⌝ }
+    ensures { λ o. ⌜ AnswersRule f n t o (λ mark ss. rule7 mark ss f source x) ⌝ }
 {
     let mode = choose(f.enters, 1, choose(f.leaves, 0, x / 128 % 2));
     (!f.enters | (x / 128 % 2 == 0))

@@ -1,5 +1,18 @@
-// The class of a word by its bits 31 to 23 (specs/Classes.antt), an entry a line. Written by tools/rows.
+// The class of a word by its bits 31 to 23 (specs/Classes.antt): a row, or one of these. Written by tools/rows.
 
+pub const INDEX: u32 = 240;
+
+pub const UPPER_BYTES: u32 = 241;
+
+pub const PORT: u32 = 242;
+
+pub const IRQ_SWITCH: u32 = 243;
+
+pub const MISC: u32 = 244;
+
+pub const NONE: u32 = 255;
+
+// The class of each value, an entry a line.
 pub const CLASSES: [u8; 512] = [
     0,
     255,

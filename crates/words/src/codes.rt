@@ -44,6 +44,10 @@ pub const OPTION_DIGIT: u64 = 0x100000;
 
 pub const MARKS: u64 = 0x1000000;
 
+// the columns of no row: nothing used, never available
+
+pub const NO_ROW: u64 = 0xa00000;
+
 // the weights of a mark among the marks
 
 pub const GOES_ON: u64 = 1;

@@ -5,24 +5,15 @@ ghost use lib.ListN.{getD};
 ghost use Rattle.laws.specs.Choice.{pick as choice};
 ghost use Rattle.words.specs.Classes.{none, lookup, byteRows, indexRows, portRows, maskRows, miscRows, rowOf};
 ghost use Rattle.words.specs.Packed.{digitRow, noPacked};
+use crate::classes::INDEX;
+use crate::classes::IRQ_SWITCH;
+use crate::classes::MISC;
+use crate::classes::NONE;
+use crate::classes::PORT;
+use crate::classes::UPPER_BYTES;
+use crate::codes;
 use crate::layout;
 use crate::numbers;
-
-// The classes whose row another field chooses, and the class of no row (specs/Classes.antt).
-const INDEX: u32 = 240;
-
-const UPPER_BYTES: u32 = 241;
-
-const PORT: u32 = 242;
-
-const IRQ_SWITCH: u32 = 243;
-
-const MISC: u32 = 244;
-
-const NONE: u32 = 255;
-
-// The packed columns of no row (specs/Packed.antt): nothing used, never available.
-const NO_PACKED: u64 = 0xa00000;
 
 pub fn pick(b: bool, x: u32, y: u32) -> u32
     ensures { λ r. ⌜ r ≡ choice b x y ⌝ }
@@ -140,7 +131,7 @@ pub fn packed_at(packs: &[u64], n: u32) -> u64
     if at < packs.len() {
         packs[at]
     } else {
-        NO_PACKED
+        codes::NO_ROW
     }
 }
 

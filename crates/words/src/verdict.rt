@@ -14,22 +14,22 @@ use crate::layout;
 use crate::rows::digit;
 use crate::rows::flag_digit;
 
-// Whether the configuration has the option that a row needs.
+// Whether the configuration has the option that a row needs, by its number (specs/Codes.antt).
 pub fn available_in(c: Config, option: u32) -> bool
     ensures { λ r. ⌜ r ≡ test (available c (optionAt option)) ⌝ }
 {
     let options = [
-        true,
-        c.alumult == 1,
-        0 < c.alulevel,
-        1 < c.alulevel,
-        (1 < c.alulevel) & (0 < c.dmsize),
-        0 < c.dmsize,
-        c.iopif == 1,
-        c.ioprmw == 1,
-        c.regsize < c.rmsize,
-        c.aluspr == 1,
-        false,
+        true, // always
+        c.alumult == 1, // mult
+        0 < c.alulevel, // level 1
+        1 < c.alulevel, // level 2
+        (1 < c.alulevel) & (0 < c.dmsize), // level 2 with memory
+        0 < c.dmsize, // memory
+        c.iopif == 1, // ports
+        c.ioprmw == 1, // rmw
+        c.regsize < c.rmsize, // banks
+        c.aluspr == 1, // spr
+        false, // never
     ];
     let at = option as usize;
     if at < 11 { options[at] } else { false }
@@ -40,20 +40,20 @@ fn limit_table(c: Config) -> [u32; 16]
     ensures { λ r. ⌜ r ≡ limitTable c ⌝ }
 {
     [
-        1,
-        2,
-        c.regwidth / 8,
-        32,
-        c.regsize,
-        64,
-        16,
-        layout::LOWER_VALUES,
-        c.dmsize,
-        c.dmsize,
-        layout::TARGETS,
-        16,
-        layout::LOWER_VALUES,
-        256,
+        1, // unused
+        2, // flag
+        c.regwidth / 8, // byte number
+        32, // coprocessor
+        c.regsize, // register
+        64, // unit
+        16, // mask
+        layout::LOWER_VALUES, // immediate
+        c.dmsize, // address that is read
+        c.dmsize, // address that is written
+        layout::TARGETS, // target
+        16, // shift count
+        layout::LOWER_VALUES, // JSRWP's address
+        256, // short immediate
         256,
         256,
     ]

@@ -248,46 +248,46 @@ module _ (v : View) (i : Instruction) (e w b : ℕ) {at d s : ℕ}
 
   -- the same, with the operands t from where the action has them: what the arms cite, so that none writes the view out
 
-  abbrev C : Operation → Operands → Change
-  C o t = computed (v .config) (v .core) (w / 0x4000000 % 2) o t
+  abbrev computes : Operation → Operands → Change
+  computes o t = computed (v .config) (v .core) (w / 0x4000000 % 2) o t
 
-  abbrev F : Operation → Operands → Change
-  F o t = compared (v .config) (v .core) (w / 0x4000000 % 2) o t
+  abbrev compares : Operation → Operands → Change
+  compares o t = compared (v .config) (v .core) (w / 0x4000000 % 2) o t
 
-  abbrev P : Operands → Change
-  P t = toRegister (multiplied (onward (v .core)) (product (v .config) (t .d) (t .x) .high)) (t .at) (product (v .config) (t .d) (t .x) .value)
+  abbrev multiplies : Operands → Change
+  multiplies t = toRegister (multiplied (onward (v .core)) (product (v .config) (t .d) (t .x) .high)) (t .at) (product (v .config) (t .d) (t .x) .value)
 
   pub computing-source : {r : Change} {y : Operands} (o : Operation) → K ≡ compute o from-register → reads flag′ b → reads destination′ b → reads source′ b →
-      y ≡ operands at d s → r ≡ C o y → r ≡ act v i (entryKind e)
-  computing-source o k f t u z q = computing-is o k f t (source-is u) (q ∙ ap (C o) z)
+      y ≡ operands at d s → r ≡ computes o y → r ≡ act v i (entryKind e)
+  computing-source o k f t u z q = computing-is o k f t (source-is u) (q ∙ ap (computes o) z)
 
   pub computing-immediate : {r : Change} {y : Operands} (o : Operation) {g : Form} → K ≡ compute o (literal g) → reads flag′ b → reads destination′ b →
-      reads value′ b → y ≡ operands at d (constant (v .config) g (w % 65536)) → r ≡ C o y → r ≡ act v i (entryKind e)
-  computing-immediate o {g = g} k f t u z q = computing-is o k f t (immediate-is g u refl) (q ∙ ap (C o) z)
+      reads value′ b → y ≡ operands at d (constant (v .config) g (w % 65536)) → r ≡ computes o y → r ≡ act v i (entryKind e)
+  computing-immediate o {g = g} k f t u z q = computing-is o k f t (immediate-is g u refl) (q ∙ ap (computes o) z)
 
   pub computing-count : {r : Change} {y : Operands} (o : Operation) → K ≡ compute o counted → reads flag′ b → reads destination′ b → reads value′ b →
-      y ≡ operands at d (w % 65536) → r ≡ C o y → r ≡ act v i (entryKind e)
-  computing-count o k f t u z q = computing-is o k f t (count-is u) (q ∙ ap (C o) z)
+      y ≡ operands at d (w % 65536) → r ≡ computes o y → r ≡ act v i (entryKind e)
+  computing-count o k f t u z q = computing-is o k f t (count-is u) (q ∙ ap (computes o) z)
 
   pub bytes-source : {r : Change} {y : Operands} (o : ℕ → Operation) {n : Operation} → K ≡ bytewise o → reads flag′ b → reads destination′ b →
-      o (i .number) ≡ n → reads source′ b → y ≡ operands at d s → r ≡ C n y → r ≡ act v i (entryKind e)
-  bytes-source o {n = n} k f t op u z q = bytes-is o k f t op (source-is u) (q ∙ ap (C n) z)
+      o (i .number) ≡ n → reads source′ b → y ≡ operands at d s → r ≡ computes n y → r ≡ act v i (entryKind e)
+  bytes-source o {n = n} k f t op u z q = bytes-is o k f t op (source-is u) (q ∙ ap (computes n) z)
 
   pub comparing-source : {r : Change} {y : Operands} (o : Operation) → K ≡ compare o from-register → reads flag′ b → reads destination′ b → reads source′ b →
-      y ≡ operands at d s → r ≡ F o y → r ≡ act v i (entryKind e)
-  comparing-source o k f t u z q = comparing-is o k f t (source-is u) (q ∙ ap (F o) z)
+      y ≡ operands at d s → r ≡ compares o y → r ≡ act v i (entryKind e)
+  comparing-source o k f t u z q = comparing-is o k f t (source-is u) (q ∙ ap (compares o) z)
 
   pub comparing-immediate : {r : Change} {y : Operands} (o : Operation) {g : Form} → K ≡ compare o (literal g) → reads flag′ b → reads destination′ b →
-      reads value′ b → y ≡ operands at d (constant (v .config) g (w % 65536)) → r ≡ F o y → r ≡ act v i (entryKind e)
-  comparing-immediate o {g = g} k f t u z q = comparing-is o k f t (immediate-is g u refl) (q ∙ ap (F o) z)
+      reads value′ b → y ≡ operands at d (constant (v .config) g (w % 65536)) → r ≡ compares o y → r ≡ act v i (entryKind e)
+  comparing-immediate o {g = g} k f t u z q = comparing-is o k f t (immediate-is g u refl) (q ∙ ap (compares o) z)
 
   pub multiply-source : {r : Change} {y : Operands} → K ≡ multiply from-register → reads destination′ b → reads source′ b →
-      y ≡ operands at d s → r ≡ P y → r ≡ act v i (entryKind e)
-  multiply-source k t u z q = multiply-is k t (source-is u) (q ∙ ap P z)
+      y ≡ operands at d s → r ≡ multiplies y → r ≡ act v i (entryKind e)
+  multiply-source k t u z q = multiply-is k t (source-is u) (q ∙ ap multiplies z)
 
   pub multiply-immediate : {r : Change} {y : Operands} {g : Form} → K ≡ multiply (literal g) → reads destination′ b → reads value′ b →
-      y ≡ operands at d (constant (v .config) g (w % 65536)) → r ≡ P y → r ≡ act v i (entryKind e)
-  multiply-immediate {g = g} k t u z q = multiply-is k t (immediate-is g u refl) (q ∙ ap P z)
+      y ≡ operands at d (constant (v .config) g (w % 65536)) → r ≡ multiplies y → r ≡ act v i (entryKind e)
+  multiply-immediate {g = g} k t u z q = multiply-is k t (immediate-is g u refl) (q ∙ ap multiplies z)
 
   pub constant-immediate : {r : Change} {x : ℕ} {g : Form} → K ≡ load-constant g → reads destination′ b → reads value′ b → x ≡ constant (v .config) g (w % 65536) →
       r ≡ toRegister (onward (v .core)) at x → r ≡ act v i (entryKind e)
