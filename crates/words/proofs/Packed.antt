@@ -36,7 +36,7 @@ unfolding rows packed partCode optionCode marksOf weight factsFor
 all-facts = refl
 
 -- the table's numbers at n
-pub base-at : (n : ℕ) → getD baseTable n 0 ≡ rowAt n .base
+base-at : (n : ℕ) → getD baseTable n 0 ≡ rowAt n .base
 unfolding baseTable rowAt
 base-at n = column-at (λ (r : Row). r .base) rows n noRow
 

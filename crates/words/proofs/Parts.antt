@@ -1,21 +1,25 @@
 -- What code asks of a part's number is what is asked of the part.
 -- Assumes nothing.
 use Prim.Native.Nat.{ℕ, zero, suc, _/_, _%_, _<_}
-use mathlib.Core.Path.{_≡_, refl}
+use mathlib.Core.Path.{_≡_, refl, ap, sym, _∙_}
 use mathlib.Core.Bool.{Bool, true, false, _&&_}
 use mathlib.Core.List.{List}
 use lib.Dec.{ltb, eqb}
 use lib.ListN.{getD}
 use native.Mathlib.Omega.{arith}
 use borrow.Author.Tests.{le-ltb, eq-eqb, ne-eqb}
-use Rattle.laws.specs.Choice.{pick}
-use Rattle.laws.specs.Table.{at-every, value-at}
-use Rattle.laws.specs.Test.{test, imp}
+use Rattle.laws.specs.Choice.{pick, is-false, true-is}
+use Rattle.laws.specs.Lists.{column, column-at}
+use Rattle.laws.specs.Table.{at-every, values, value-at}
+use Rattle.laws.specs.Test.{Test, no?, _and_, test, imp, Holds, holds}
 use Rattle.words.specs.declared.Config.{Config}
-use Rattle.words.specs.Parts.{Part, unused, flag, byte, coprocessor, register, unit, mask, immediate, read-address, write-address, target, count, bank-address, short, is, inRange}
-use Rattle.words.specs.Codes.{partAt}
-use Rattle.words.specs.Packed.{limitOf, limitTable}
-use Rattle.words.specs.Words.{flagIn}
+use Rattle.words.specs.declared.Instruction.{Instruction}
+use Rattle.words.specs.Parts.{Part, unused, flag, byte, coprocessor, register, unit, mask, immediate, read-address, write-address, target, count, bank-address, short, is, inRange, available}
+use Rattle.words.specs.Kinds.{unsupported}
+use Rattle.words.specs.Codes.{partCode, partAt, optionAt}
+use Rattle.words.specs.Rows.{Row, rows, noRow, rowAt}
+use Rattle.words.specs.Packed.{unpack, limitOf, limitTable, optionTable, inLimit, fitsLent}
+use Rattle.words.specs.Words.{flagIn, fits}
 use Rattle.words.proofs.Checks.{alike, alike-is}
 
 pub unused-code : (d : ℕ) → d < 16 → is (partAt d) unused ≡ eqb d 0
@@ -75,3 +79,43 @@ pub range-code : (c : Config) (l : List ℕ) (d v : ℕ) → l ≡ limitTable c 
     imp (eqb d 11 && eqb (c .alulevel) 0) (eqb v 1) && ltb v (getD l d 0) ≡ test (inRange c (partAt d) v)
 unfolding limitTable
 range-code c l d v e h = rw (e, value-at (λ n. limitOf c (partAt n)) 16 d 0 h, ← count-code d h) (range-by c (partAt d) v)
+
+-- by lent tables
+
+pub option-code : (c : Config) (l : List Bool) (d : ℕ) → l ≡ optionTable c → d < 16 → getD l d false ≡ test (available c (optionAt d))
+unfolding optionTable available optionAt
+option-code c l d e h =
+    let f : ℕ → Bool = λ n. test (available c (optionAt n)) in
+    rw e (column-at f (values (λ n. n) 0 16) d 16 ∙ ap f (value-at (λ n. n) 16 d 16 h))
+
+-- a part that is no shift count is in its range where it is below its limit
+plain-code : (c : Config) (l : List ℕ) (d v : ℕ) → l ≡ limitTable c → d < 16 → is (partAt d) count ≡ false → ltb v (getD l d 0) ≡ test (inRange c (partAt d) v)
+plain-code c l d v e h n = rw (sym (count-code d h) ∙ n) at (range-code c l d v e h)
+
+-- of a row's parts only the value can be a shift count
+
+abbrev pub plain : Row → Test
+plain r = no? (is (r .flag) count) and no? (is (r .number) count) and no? (is (r .destination) count) and no? (is (r .source) count)
+
+all-plain : column (λ r. test (plain r)) rows ≡ column (λ r. true) rows
+unfolding rows
+all-plain = refl
+
+pub plain-at : (n : ℕ) → Holds (plain (rowAt n))
+unfolding rowAt
+plain-at n =
+    holds (plain (rowAt n))
+    (true-is _ (sym (column-at (λ r. test (plain r)) rows n noRow) ∙ (ap (λ l. getD l n true) all-plain ∙ column-at (λ r. true) rows n noRow)))
+
+-- so the parts are in range where they are below their limits
+pub fits-code : (c : Config) (l : List ℕ) (p : ℕ) (i : Instruction) → l ≡ limitTable c → Holds (plain (unpack 0 p unsupported)) →
+    test (fitsLent l c p i) ≡ test (fits c (unpack 0 p unsupported) i)
+unfolding fitsLent inLimit fits partCode
+fits-code c l p i e t =
+    rw (
+      plain-code c l (p % 16) (i .flag) e (omega arith) (is-false _ (t .0)),
+      plain-code c l (p / 0x10 % 16) (i .number) e (omega arith) (is-false _ (t .1 .0)),
+      plain-code c l (p / 0x100 % 16) (i .destination) e (omega arith) (is-false _ (t .1 .1 .0)),
+      plain-code c l (p / 0x1000 % 16) (i .source) e (omega arith) (is-false _ (t .1 .1 .1)),
+      range-code c l (p / 0x10000 % 16) (i .value) e (omega arith),
+    )

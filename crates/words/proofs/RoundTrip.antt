@@ -81,12 +81,12 @@ module _
 most-member : (l : List ℕ) (n m : ℕ) → T (all (λ x. leb x m) l) → Member n l → n ≤ m
 most-member l n m t h = leb→le n m (all-at (λ x. leb x m) l n t h)
 
-record Bounds (c : Config) : Type 0 where
-  width : c .regwidth ≤ 32
-  registers : c .regsize ≤ 128
-  memory : c .dmsize ≤ 32768
+pub record Bounds (c : Config) : Type 0 where
+  pub width : c .regwidth ≤ 32
+  pub registers : c .regsize ≤ 128
+  pub memory : c .dmsize ≤ 32768
 
-bounds : (c : Config) → Holds (lawful c) → Bounds c
+pub bounds : (c : Config) → Holds (lawful c) → Bounds c
 unfolding lawful
 bounds c h =
     record {
@@ -95,7 +95,7 @@ bounds c h =
       memory = most-member dataSizes _ 32768 tt (h .1 .1 .1 .0 .1 .1 .0);
     }
 
-range-most : (c : Config) (p : Part) (v : ℕ) → Bounds c → Holds (inRange c p v) → v < most-of p
+pub range-most : (c : Config) (p : Part) (v : ℕ) → Bounds c → Holds (inRange c p v) → v < most-of p
 unfolding inRange most-of
 range-most c unused v b h = omega arith
 range-most c flag v b h = h
@@ -113,19 +113,19 @@ range-most c bank-address v b h = h
 range-most c short v b h = h
 
 -- what it means that no test fails
-record Stands (i : Instruction) : Type 0 where
-  row : i .row < rowCount
-  flag : i .flag < most-of (rowAt (i .row) .flag)
-  number : i .number < most-of (rowAt (i .row) .number)
-  destination : i .destination < most-of (rowAt (i .row) .destination)
-  source : i .source < most-of (rowAt (i .row) .source)
-  value : i .value < most-of (rowAt (i .row) .value)
+pub record Stands (i : Instruction) : Type 0 where
+  pub row : i .row < rowCount
+  pub flag : i .flag < most-of (rowAt (i .row) .flag)
+  pub number : i .number < most-of (rowAt (i .row) .number)
+  pub destination : i .destination < most-of (rowAt (i .row) .destination)
+  pub source : i .source < most-of (rowAt (i .row) .source)
+  pub value : i .value < most-of (rowAt (i .row) .value)
 
 numbered : (c : Config) (r : Row) (i : Instruction) → Numbered (refusals c r i)
 unfolding refusals refusals567
 numbered c r i = (inr (omega arith), (inr (omega arith), (inr (omega arith), (inr (omega arith), tt))))
 
-stands : (c : Config) (i : Instruction) → first-failing (refusals c (rowAt (i .row)) i) ≡ 0 → Stands i
+pub stands : (c : Config) (i : Instruction) → first-failing (refusals c (rowAt (i .row)) i) ≡ 0 → Stands i
 unfolding refusals refusals567 fits
 stands c i e =
     let r = rowAt (i .row) in
@@ -153,7 +153,7 @@ decoded n i j e =
     given : (m : ℕ) → m ≡ 0 → pick (eqb m 0) i zeros ≡ j → i ≡ j
     given m z v = rw z at v
 
-encoded : (n w v : ℕ) → written n w ≡ wrote v → (n ≡ 0) × (w ≡ v)
+pub encoded : (n w v : ℕ) → written n w ≡ wrote v → (n ≡ 0) × (w ≡ v)
 unfolding written pick
 encoded n w v e =
     let z : n ≡ 0 = ap (λ r. r .number) e in

@@ -2,23 +2,25 @@
 -- number each. Nothing here is to be believed: proofs/Packed.antt ties it to Rows and Words.
 use Prim.Native.Nat.{ℕ, _+_, _*_, _/_, _%_, _^_}
 use mathlib.Core.Path.{_≡_}
-use mathlib.Core.Bool.{Bool}
-use mathlib.Core.List.{List}
+use mathlib.Core.Bool.{Bool, false, _&&_}
+use mathlib.Core.List.{List, [], _∷_}
 use lib.Dec.{eqb}
 use lib.ListN.{getD}
 use Rattle.laws.specs.Choice.{pick}
+use Rattle.laws.specs.First.{first-failing}
 use Rattle.laws.specs.Lists.{column}
 use Rattle.laws.specs.Table.{values}
+use Rattle.laws.specs.Test.{Test, less, same, yes?, if?, _and_, test}
 use Rattle.words.specs.declared.Config.{Config}
 use Rattle.words.specs.declared.Instruction.{Instruction}
 use Rattle.words.specs.declared.Facts.{Facts}
-use Rattle.words.specs.Parts.{Part, unused, flag, byte, coprocessor, register, unit, mask, immediate, read-address, write-address, target, count, bank-address, short}
+use Rattle.words.specs.Parts.{Part, unused, flag, byte, coprocessor, register, unit, mask, immediate, read-address, write-address, target, count, bank-address, short, available}
 use Rattle.words.specs.Kinds.{Kind, marksOf}
 use Rattle.words.specs.Codes.{partCode, partAt, optionCode, optionAt, weights}
 use Rattle.words.specs.Numbers.{CLZ}
-use Rattle.words.specs.Rows.{Row, rows, rowAt}
+use Rattle.words.specs.Rows.{Row, rows, rowCount, rowAt}
 use Rattle.words.specs.Classes.{none, classOf, rowOf}
-use Rattle.words.specs.Words.{fieldsIn, spread, Read, readBy}
+use Rattle.words.specs.Words.{fieldsIn, spread, gather, wordFrom, Read, readBy, Written, written}
 
 -- hex digits from the right: flag, number, destination, source, value, option; then the marks of the kind
 unfoldable pub packed : Row → ℕ
@@ -95,6 +97,10 @@ limitOf c short = 256
 unfoldable pub limitTable : Config → List ℕ
 limitTable c = values (λ n. limitOf c (partAt n)) 0 16
 
+-- whether the option that a number stands for is there
+unfoldable pub optionTable : Config → List Bool
+optionTable c = column (λ n. test (available c (optionAt n))) (values (λ n. n) 0 16)
+
 -- the row that digit n of a packed number names, counted from CLZ, the row before BST; 0 names none
 abbrev pub digitRow : ℕ → ℕ → ℕ
 digitRow digits n = let d = digits / 2 ^ (4 * n) % 16 in pick (eqb d 0) none (CLZ + d)
@@ -133,3 +139,28 @@ partsLent bases packs c n w = spread c (fieldsIn c n (rowLent bases packs n) (w 
 -- Reading by lent tables, whatever they hold. With the three tables above it is `readLawful` (proofs/Packed.antt, `lent`).
 unfoldable pub readLent : List ℕ → List ℕ → List ℕ → Config → ℕ → Read
 readLent classes bases packs c w = readBy (λ k. getD classes k none) (rowLent bases packs) c w
+
+-- whether v is below the limit of the part of number d, and at level 0 a shift is by 1
+unfoldable pub inLimit : List ℕ → Config → ℕ → ℕ → Test
+inLimit limits c d v = if? (eqb d (partCode count) && eqb (c .alulevel) 0) (same v 1) and less v (getD limits d 0)
+
+-- whether the parts are below their limits, by what a row's packed number says that they hold; only the value is asked whether it is a shift
+unfoldable pub fitsLent : List ℕ → Config → ℕ → Instruction → Test
+fitsLent limits c p i =
+    less (i .flag) (getD limits (p % 16) 0) and
+    less (i .number) (getD limits (p / 0x10 % 16) 0) and
+    less (i .destination) (getD limits (p / 0x100 % 16) 0) and
+    less (i .source) (getD limits (p / 0x1000 % 16) 0) and
+    inLimit limits c (p / 0x10000 % 16) (i .value)
+
+-- refusals 5, 6 and 7 by lent tables
+unfoldable pub refusalsLent : List Bool → List ℕ → Config → ℕ → Instruction → List (ℕ × Test)
+refusalsLent options limits c p i =
+    (5, less (i .row) rowCount) ∷ (6, yes? (getD options (p / 0x100000 % 16) false)) ∷ (7, fitsLent limits c p i) ∷ []
+
+-- Writing by lent tables, whatever they hold: the word is cut to 32 bits, so that it is one whatever the configuration. With the four tables above
+-- and a lawful configuration it is `writeLawful` (proofs/Answers.antt, `write-lent`).
+unfoldable pub writeLent : List ℕ → List ℕ → List Bool → List ℕ → Config → Instruction → Written
+writeLent bases packs options limits c i =
+    let r = refusalsLent options limits c (getD packs (i .row) noPacked) i in
+    written (first-failing r) (wordFrom (getD bases (i .row) 0) (gather c i) % 0x100000000)

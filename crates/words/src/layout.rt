@@ -1,5 +1,8 @@
 // Where the fields of a word begin (manual 5.17.1): a field is a quotient by its weight, cut off by a remainder.
 
+// How many words there are, of 32 bits.
+pub const WORDS: u64 = 0x100000000;
+
 // Bits 31-23, which choose the row; what lies below are bits 22-0.
 pub const KEY: u32 = 0x800000;
 

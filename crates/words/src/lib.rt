@@ -27,6 +27,7 @@ pub use decode::read_word_lawful;
 pub use decode::read_word_lent;
 pub use decode::row_lent;
 pub use encode::write_word;
+pub use encode::write_word_lent;
 pub use entries::cost_table;
 pub use entries::entry_table;
 pub use entries::lower_limits;
@@ -38,6 +39,8 @@ pub use tables::base_table;
 pub use tables::class_table;
 pub use tables::field_table;
 pub use tables::key_table;
+pub use tables::limit_table;
+pub use tables::option_table;
 pub use tables::row_table;
 
 // A configuration of the core: the manual's generics under their names, in the order of document 01.

@@ -1,18 +1,21 @@
-// The verdict on an instruction's parts, for reading and writing alike: refusals 6 and 7.
+// The verdict on an instruction's parts: refusals 6 and 7, by the configuration for reading, by lent tables for writing.
 ghost use mathlib.Core.Path.{_≡_};
+ghost use mathlib.Core.Bool.{false};
 ghost use Prim.Native.Nat.{_<_};
+ghost use lib.Dec.{ltb};
+ghost use lib.ListN.{getD};
 ghost use Rattle.laws.specs.Test.{test};
 ghost use Rattle.words.specs.Parts.{inRange, available};
 ghost use Rattle.words.specs.Kinds.{unsupported};
 ghost use Rattle.words.specs.Codes.{partAt, optionAt};
-ghost use Rattle.words.specs.Packed.{limitTable, unpack};
+ghost use Rattle.words.specs.Packed.{limitTable, unpack, inLimit, fitsLent};
 ghost use Rattle.words.specs.Words.{fits};
 use crate::Config;
 use crate::Instruction;
 use crate::codes;
-use crate::layout;
 use crate::rows::digit;
 use crate::rows::flag_digit;
+use crate::tables::limit_table;
 
 // Whether the configuration has the option that a row needs, by its number (specs/Codes.antt).
 pub fn available_in(c: Config, option: u32) -> bool
@@ -33,30 +36,6 @@ pub fn available_in(c: Config, option: u32) -> bool
     ];
     let at = option as usize;
     if at < 11 { options[at] } else { false }
-}
-
-// What a part stays below, by its number (specs/Codes.antt).
-fn limit_table(c: Config) -> [u32; 16]
-    ensures { λ r. ⌜ r ≡ limitTable c ⌝ }
-{
-    [
-        1, // unused
-        2, // flag
-        c.regwidth / 8, // byte number
-        32, // coprocessor
-        c.regsize, // register
-        64, // unit
-        16, // mask
-        layout::LOWER_VALUES, // immediate
-        c.dmsize, // address that is read
-        c.dmsize, // address that is written
-        layout::TARGETS, // target
-        16, // shift count
-        layout::LOWER_VALUES, // JSRWP's address
-        256, // short immediate
-        256,
-        256,
-    ]
 }
 
 // Whether v is in the range of what a part holds: below its limit; and at level 0 a shift is by 1.
@@ -84,5 +63,46 @@ pub fn parts_fit(c: Config, p: u64, i: Instruction) -> bool
     );
     let source = in_range(c, &limits, digit(p, codes::SOURCE_DIGIT), i.source);
     let value = in_range(c, &limits, digit(p, codes::VALUE_DIGIT), i.value);
+    flag & (number & (destination & (source & value)))
+}
+
+// The same by lent tables, whatever they hold: with the configuration's own it is what stands above (proofs/Parts.antt, `option-code`, `fits-code`).
+
+// Whether an option is there, by its number.
+pub fn option_lent(options: &[bool; 16], option: u32) -> bool
+    requires { ⌜ option < 16 ⌝ }
+    ensures { λ r. ⌜ r ≡ getD (now (options .entry)) option false ⌝ }
+{
+    let at = option as usize;
+    options[at]
+}
+
+// Whether v is below the limit of a part, by its number.
+fn below(limits: &[u32; 16], part: u32, v: u32) -> bool
+    requires { ⌜ part < 16 ⌝ }
+    ensures { λ r. ⌜ r ≡ ltb v (getD (now (limits .entry)) part 0) ⌝ }
+{
+    let at = part as usize;
+    v < limits[at]
+}
+
+// The same for a value, which alone can be a shift count: at level 0 that is 1.
+fn value_below(limits: &[u32; 16], c: Config, part: u32, v: u32) -> bool
+    requires { ⌜ part < 16 ⌝ }
+    ensures { λ r. ⌜ r ≡ test (inLimit (now (limits .entry)) c part v) ⌝ }
+{
+    let at = part as usize;
+    (!((part == codes::COUNT) & (c.alulevel == 0)) | (v == 1)) & (v < limits[at])
+}
+
+// Whether each part is below the limit of what the row, packed in p, says that it holds.
+pub fn fits_lent(limits: &[u32; 16], c: Config, p: u64, i: Instruction) -> bool
+    ensures { λ r. ⌜ r ≡ test (fitsLent (now (limits .entry)) c p i) ⌝ }
+{
+    let flag = below(limits, flag_digit(p), i.flag);
+    let number = below(limits, digit(p, codes::NUMBER_DIGIT), i.number);
+    let destination = below(limits, digit(p, codes::DESTINATION_DIGIT), i.destination);
+    let source = below(limits, digit(p, codes::SOURCE_DIGIT), i.source);
+    let value = value_below(limits, c, digit(p, codes::VALUE_DIGIT), i.value);
     flag & (number & (destination & (source & value)))
 }

@@ -1,9 +1,9 @@
--- `words::verdict::limit_table` meets its contract. Assumes nothing.
+-- `words::tables::limit_table` meets its contract. Assumes nothing.
 use mathlib.Core.Path.{refl}
 use Rattle.words.specs.Codes.{partAt}
 use Rattle.words.specs.Packed.{limitOf, limitTable}
-use Rattle.words.proofs.verdict.limit_table.Statement.{statement}
-use Rattle.words.proofs.verdict.limit_table.Tie as tie
+use Rattle.words.proofs.tables.limit_table.Statement.{statement}
+use Rattle.words.proofs.tables.limit_table.Tie as tie
 
 returns : tie.Need-returns
 unfolding limitTable limitOf partAt
