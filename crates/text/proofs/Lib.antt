@@ -1,1 +1,3 @@
+pub mod Tidy
+pub mod Printed
 pub mod Whole

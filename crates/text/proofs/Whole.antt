@@ -6,20 +6,26 @@ use mathlib.Core.Bool.{Bool, true, false}
 use mathlib.Core.List.{List, [], _∷_, _++_, append-assoc}
 use native.Mathlib.Nat.{add-zero, zero-add, add-suc, suc-add}
 use native.Mathlib.Omega.{arith}
-use borrow.Author.Tests.{le-leb, leb-true, eqb-true, eqb-false, ne-eqb}
+use borrow.Author.Tests.{le-ltb, le-leb, leb-true, eqb-true, eqb-false, ne-eqb}
 use lib.Dec.{eqb, leb}
 use lib.ListN.{length, take, drop, length-append}
 use lib.Seq.{sets-eq, slice, slice-empty, length-take-le, take-append-le, take-at, drop-at}
-use Rattle.laws.specs.Choice.{pick}
+use Rattle.laws.specs.Choice.{pick, is-true}
 use Rattle.laws.specs.First.{numbered, none-fails, obeyed}
-use Rattle.laws.specs.Test.{Holds, same, most}
+use Rattle.laws.specs.Test.{Holds, same, most, test, tests}
 use Rattle.words.specs.declared.Config.{Config}
 use Rattle.words.specs.Configs.{lawful}
+use Rattle.words.specs.Claims.{understood}
+use Rattle.words.specs.Words.{Read, readOf}
+use Rattle.words.proofs.Answers.{lawful-read}
+use Rattle.syntax.specs.Claims.{textOfWord}
+use Rattle.syntax.proofs.Lengths.{text-short}
 use Rattle.text.specs.declared.Listed.{Listed}
 use Rattle.text.specs.Pages.{written}
+use Rattle.text.specs.Texts.{shownText, wordText}
 use Rattle.text.specs.Lines.{lineAt, linesFrom, Listing, listing, listed, listNumber, listOf}
 use Rattle.text.specs.Answers.{listedOf}
-use Rattle.text.specs.Claims.{linesToEnd, printedFrom, ListsWhole, ListsInParts, ListsKeep, Lists}
+use Rattle.text.specs.Claims.{linesToEnd, printedFrom, ListsWhole, ListsInParts, ListsKeep, ListsTexts, Lists}
 use Rattle.text.proofs.writers.Laws.{sets-append, length-written}
 
 -- what is written, part by part
@@ -253,6 +259,20 @@ lists-keep c image first page place = go (eqb (listNumber c (length image) (leng
         (before-stays page place t (d .fits), beyond-stays page place t (d .fits), length-written page place t)
     go false e = rw (refused-is c image first page place (eqb-false (listNumber c (length image) (length page) place) 0 e)) (refl, refl, refl)
 
+-- the text of a word that can be read is short, and so stands in the listing
+
+understands : (c : Config) (w : ℕ) → readOf c w .number ≡ 0 → readOf c w ≡ understood (readOf c w .instruction)
+understands c w e = go (readOf c w) e
+  where
+    go : (r : Read) → r .number ≡ 0 → r ≡ understood (r .instruction)
+    go r e = λ i. record { number = e i; instruction = r .instruction }
+
+pub lists-texts : ListsTexts
+unfolding wordText shownText pick
+lists-texts c w h e =
+    let s = text-short c w (readOf c w .instruction) (understands c w e) in
+    rw (lawful-read c w (is-true (test (lawful c)) (tests (lawful c) h)), e, le-ltb 20 (length (textOfWord c w)) (omega arith))
+
 pub lists : (c : Config) (image : List ℕ) (first : ℕ) (page : List ℕ) (place : ℕ) (r : Listed) (after : List ℕ) →
     listedOf r after ≡ listOf c image first page place → Lists c image first page place r after
-lists c image first page place r after e = record { answer = e; whole = lists-whole; parts = lists-in-parts; keeps = lists-keep }
+lists c image first page place r after e = record { answer = e; whole = lists-whole; parts = lists-in-parts; keeps = lists-keep; texts = lists-texts }

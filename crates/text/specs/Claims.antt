@@ -7,8 +7,11 @@ use lib.Seq.{slice}
 use Rattle.laws.specs.Test.{Holds}
 use Rattle.words.specs.declared.Config.{Config}
 use Rattle.words.specs.Configs.{lawful}
+use Rattle.words.specs.Words.{readOf}
+use Rattle.syntax.specs.Claims.{textOfWord}
 use Rattle.text.specs.declared.Listed.{Listed}
 use Rattle.text.specs.Pages.{written}
+use Rattle.text.specs.Texts.{wordText}
 use Rattle.text.specs.Lines.{linesFrom, Listing, listing, listOf}
 use Rattle.text.specs.Answers.{listedOf}
 
@@ -43,9 +46,14 @@ ListsKeep =
     (c : Config) (image : List ℕ) (first : ℕ) (page : List ℕ) (place : ℕ) → let r = listOf c image first page place in
     (take place (r .page) ≡ take place page) × (drop (r .place) (r .page) ≡ drop (r .place) page) × (length (r .page) ≡ length page)
 
+-- For a word that can be read, what stands in a listing is its text: of these syntax's `ListedBack` speaks.
+abbrev pub ListsTexts : Type 0
+ListsTexts = (c : Config) (w : ℕ) → Holds (lawful c) → readOf c w .number ≡ 0 → wordText c w ≡ textOfWord c w
+
 -- what `list` promises of its answer r and of the page after it
 pub record Lists (c : Config) (image : List ℕ) (first : ℕ) (page : List ℕ) (place : ℕ) (r : Listed) (after : List ℕ) : Type 0 where
   pub answer : listedOf r after ≡ listOf c image first page place
   pub whole : ListsWhole
   pub parts : ListsInParts
   pub keeps : ListsKeep
+  pub texts : ListsTexts

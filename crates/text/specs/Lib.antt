@@ -1,10 +1,7 @@
-pub mod Letters
-pub mod Strings
-pub mod Styles
-pub mod Digits
 pub mod Pages
 pub mod Texts
 pub mod Lines
+pub mod Printed
 pub mod Packed
 pub mod Answers
 pub mod Claims

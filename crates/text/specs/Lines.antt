@@ -8,14 +8,14 @@ use Rattle.laws.specs.Test.{same, most}
 use Rattle.laws.specs.First.{first-failing}
 use Rattle.words.specs.declared.Config.{Config}
 use Rattle.words.specs.Configs.{lawful}
-use Rattle.text.specs.Letters.{space, newline}
-use Rattle.text.specs.Digits.{hex}
+use Rattle.syntax.specs.Digits.{hex}
+use Rattle.syntax.specs.Quoted.{quoted}
 use Rattle.text.specs.Pages.{written}
 use Rattle.text.specs.Texts.{wordText}
 
 -- "A line: address six digits, space, word eight, space, text or "?" and the number, newline."
 unfoldable pub lineOf : ℕ → ℕ → List ℕ → List ℕ
-lineOf a w t = hex 6 a ++ ((space ∷ []) ++ (hex 8 w ++ ((space ∷ []) ++ (t ++ (newline ∷ [])))))
+lineOf a w t = hex 6 a ++ (quoted " " ++ (hex 8 w ++ (quoted " " ++ (t ++ quoted "\n"))))
 
 unfoldable pub lineAt : Config → List ℕ → ℕ → List ℕ
 lineAt c image a = let w = getD image a 0 in lineOf a w (wordText c w)

@@ -1,4 +1,4 @@
--- The tables that code holds, and a text as code writes it: four pieces, each bytes of a table and then digits. proofs/forms/Laws.antt ties them to Texts.
+-- The tables that code holds, and a text as code writes it: four pieces, each bytes of a table and then digits. proofs/Printed.antt ties them to syntax's texts.
 use Prim.Native.Nat.{ℕ, _+_, _*_, _/_, _%_, _<_}
 use mathlib.Core.Path.{_≡_}
 use mathlib.Core.Bool.{not, _&&_}
@@ -7,14 +7,10 @@ use lib.Dec.{eqb}
 use lib.ListN.{length, getD}
 use Rattle.laws.specs.Choice.{pick}
 use Rattle.laws.specs.Lists.{column}
-use Rattle.laws.specs.Table.{values}
 use Rattle.words.specs.declared.Instruction.{Instruction}
-use Rattle.words.specs.Parts.{flag, is}
-use Rattle.words.specs.Rows.{Row, rowCount, rowAt}
-use Rattle.text.specs.Strings.{empty, updates, strings}
-use Rattle.text.specs.Styles.{Style, styleAt}
-use Rattle.text.specs.Digits.{hex, unpacked}
-use Rattle.text.specs.Texts.{shown, numberWidth, endMark}
+use Rattle.syntax.specs.Digits.{hex, unpacked}
+use Rattle.syntax.specs.Quoted.{quoted}
+use Rattle.text.specs.Printed.{strings, styleTable}
 use Rattle.text.specs.declared.forms.Piece.{Piece}
 use Rattle.text.specs.declared.forms.Form.{Form}
 
@@ -24,38 +20,19 @@ packedFrom a [] = a
 packedFrom a (x ∷ xs) = packedFrom (256 * a + x) xs
 
 unfoldable pub stringTable : List ℕ
-stringTable = column (packedFrom 0) strings
+stringTable = column (λ s. packedFrom 0 (quoted s)) strings
 
 unfoldable pub sizeTable : List ℕ
-sizeTable = column length strings
-
--- what stands last in a row's texts: ",S", where the flags are updated, or the condition
-unfoldable pub endingOf : Row → ℕ
-endingOf r = pick (is (r .flag) flag) updates (endMark (r .kind))
-
--- hex digits from the right: two for the name, one for the width of the byte number; for each operand two for the mark, its width and its part; two for
--- what stands last; 1 where that depends on bit 26
-unfoldable pub packedStyle : Style → Row → ℕ
-packedStyle s r =
-    s .name +
-    0x100 * numberWidth (r .number) +
-    0x1000 * s .shape .first .mark +
-    0x100000 * s .shape .first .width +
-    0x1000000 * s .shape .first .part +
-    0x10000000 * s .shape .second .mark +
-    0x1000000000 * s .shape .second .width +
-    0x10000000000 * s .shape .second .part +
-    0x100000000000 * endingOf r +
-    0x10000000000000 * pick (is (r .flag) flag) 1 0
-
-unfoldable pub styleTable : List ℕ
-styleTable = values (λ n. packedStyle (styleAt n) (rowAt n)) 0 rowCount
+sizeTable = column (λ s. length (quoted s)) strings
 
 -- the tables that are lent are these
 pub record Lent (strings sizes styles : List ℕ) : Type 0 where
   pub strings-right : strings ≡ stringTable
   pub sizes-right : sizes ≡ sizeTable
   pub styles-right : styles ≡ styleTable
+
+-- A packed style, hex digits from the right: two for the name's string, one for the width of the byte number; for each operand two for the string before its
+-- digits, its width and its part; two for the string that stands last, ",S" or a condition; 1 where bit 26 chooses that.
 
 -- the strings that packed style p names are below k
 pub record Named (k p : ℕ) : Type 0 where
@@ -76,17 +53,21 @@ formText f = pieceText (f .name) ++ (pieceText (f .first) ++ (pieceText (f .seco
 unfoldable pub pieceLent : List ℕ → List ℕ → ℕ → ℕ → ℕ → Piece
 pieceLent strings sizes k w v = record { bytes = getD strings k 0; size = getD sizes k 0; width = w; value = v }
 
--- what stands last, where bit 26 is `bit`
+-- what an operand's digits show, by the part's number: nothing, destination, source, value, and JSRWP's offset, 16 times its unit
+unfoldable pub shownPart : ℕ → Instruction → ℕ
+shownPart k i = getD (0 ∷ i .destination ∷ i .source ∷ i .value ∷ 16 * i .destination ∷ []) k 0
+
+-- what stands last, where bit 26 is `bit`; string 0 is empty
 unfoldable pub lastMark : ℕ → ℕ → ℕ → ℕ
-lastMark flagged mark bit = pick (eqb flagged 1 && not (eqb bit 0)) empty mark
+lastMark flagged mark bit = pick (eqb flagged 1 && not (eqb bit 0)) 0 mark
 
 -- the pieces of an instruction's text by lent tables, whatever they hold; p is its row's packed style
 unfoldable pub formIn : List ℕ → List ℕ → ℕ → Instruction → Form
 formIn strings sizes p i =
     record {
       name = pieceLent strings sizes (p % 256) (p / 0x100 % 16) (i .number);
-      first = pieceLent strings sizes (p / 0x1000 % 256) (p / 0x100000 % 16) (shown (p / 0x1000000 % 16) i);
-      second = pieceLent strings sizes (p / 0x10000000 % 256) (p / 0x1000000000 % 16) (shown (p / 0x10000000000 % 16) i);
+      first = pieceLent strings sizes (p / 0x1000 % 256) (p / 0x100000 % 16) (shownPart (p / 0x1000000 % 16) i);
+      second = pieceLent strings sizes (p / 0x10000000 % 256) (p / 0x1000000000 % 16) (shownPart (p / 0x10000000000 % 16) i);
       last = pieceLent strings sizes (lastMark (p / 0x10000000000000 % 16) (p / 0x100000000000 % 256) (i .flag)) 0 0;
     }
 

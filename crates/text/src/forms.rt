@@ -4,8 +4,7 @@ ghost use Prim.Native.Nat.{_<_, _≤_, _+_};
 ghost use lib.ListN.{length, getD};
 ghost use Rattle.laws.specs.Choice.{pick as choice};
 ghost use Rattle.text.specs.Pages.{Wrote};
-ghost use Rattle.text.specs.Packed.{Lent, Named, pieceText, formText, pieceLent, lastMark, formIn, formLent};
-ghost use Rattle.text.specs.Texts.{shown};
+ghost use Rattle.text.specs.Packed.{Lent, Named, pieceText, formText, pieceLent, shownPart, lastMark, formIn, formLent};
 use crate::writers::put_hex;
 use crate::writers::put_packed;
 use words::Instruction;
@@ -91,7 +90,7 @@ fn pick(b: bool, x: u64, y: u64) -> u64
 
 // What the digits of an operand show.
 fn shown_part(k: u64, i: Instruction) -> u64
-    ensures { λ r. ⌜ r ≡ shown k i ⌝ }
+    ensures { λ r. ⌜ r ≡ shownPart k i ⌝ }
 {
     let register = pick(
         k == 1,

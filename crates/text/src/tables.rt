@@ -1,6 +1,7 @@
 // The tables of strings and styles. A constant has no storage of its own, so a caller takes them once and lends them.
 ghost use mathlib.Core.Path.{_≡_};
-ghost use Rattle.text.specs.Packed.{stringTable, sizeTable, styleTable};
+ghost use Rattle.text.specs.Packed.{stringTable, sizeTable};
+ghost use Rattle.text.specs.Printed.{styleTable};
 use crate::columns::SIZES;
 use crate::columns::STRINGS;
 use crate::columns::STYLES;

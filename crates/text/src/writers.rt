@@ -3,7 +3,7 @@ ghost use mathlib.Core.Path.{_≡_};
 ghost use mathlib.Core.List.{_∷_, []};
 ghost use Prim.Native.Nat.{_<_, _≤_, _+_};
 ghost use lib.ListN.{length};
-ghost use Rattle.text.specs.Digits.{digit, hex, unpacked};
+ghost use Rattle.syntax.specs.Digits.{digit, hex, unpacked};
 ghost use Rattle.text.specs.Pages.{Wrote};
 
 // The small hex digit of d.

@@ -21,9 +21,10 @@ use Rattle.words.specs.Words.{Read, readLawful, readOf}
 use Rattle.words.specs.Answers.{refusalNumber, readingOf}
 use Rattle.words.specs.Packed.{Tables, readLent}
 use Rattle.words.proofs.Packed.{read-lent}
-use Rattle.text.specs.Digits.{spelled, digit, hex, unpacked}
+use Rattle.syntax.specs.Digits.{spelled, digit, hex, unpacked}
+use Rattle.syntax.specs.Forms.{textOf}
 use Rattle.text.specs.Pages.{Wrote}
-use Rattle.text.specs.Texts.{Text, textOf, textLimit, textNumber, printed, textCall, decimal, refusedText, shownText, wordText}
+use Rattle.text.specs.Texts.{Text, textLimit, textNumber, printed, textCall, decimal, refusedText, shownText, wordText}
 use Rattle.text.specs.Packed.{pieceText, formText}
 use Rattle.text.specs.declared.forms.Form.{Form}
 

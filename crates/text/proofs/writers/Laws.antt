@@ -7,7 +7,7 @@ use native.Mathlib.Nat.{add-zero, add-suc, suc-add}
 use native.Mathlib.Omega.{arith}
 use lib.ListN.{length, set, length-append}
 use lib.Seq.{sets, length-sets, set-comm}
-use Rattle.text.specs.Digits.{spelled}
+use Rattle.syntax.specs.Digits.{spelled}
 use Rattle.text.specs.Pages.{written, Wrote}
 
 -- two runs, one after the other, are one run

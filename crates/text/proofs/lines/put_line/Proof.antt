@@ -1,6 +1,6 @@
 -- `text::lines::put_line` meets its contract. Assumes nothing.
 use native.Mathlib.Omega.{arith}
-use Rattle.text.specs.Digits.{digit}
+use Rattle.syntax.specs.Digits.{digit}
 use Rattle.text.specs.Lines.{lineOf}
 use Rattle.text.proofs.writers.Laws.{then, length-spelled}
 use borrow.Author.Needs.{needs}

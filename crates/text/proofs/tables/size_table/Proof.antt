@@ -1,6 +1,6 @@
 -- `text::tables::size_table` meets its contract. Assumes nothing.
 use mathlib.Core.Path.{refl}
-use Rattle.text.specs.Strings.{strings}
+use Rattle.text.specs.Printed.{strings}
 use Rattle.text.specs.Packed.{sizeTable}
 use Rattle.text.proofs.tables.size_table.Statement.{statement}
 use Rattle.text.proofs.tables.size_table.Tie as tie

@@ -1,6 +1,6 @@
 -- `text::tables::string_table` meets its contract. Assumes nothing.
 use mathlib.Core.Path.{refl}
-use Rattle.text.specs.Strings.{strings}
+use Rattle.text.specs.Printed.{strings}
 use Rattle.text.specs.Packed.{stringTable}
 use Rattle.text.proofs.tables.string_table.Statement.{statement}
 use Rattle.text.proofs.tables.string_table.Tie as tie

@@ -1,6 +1,6 @@
 -- `text::writers::digit_of` meets its contract. Assumes nothing.
 use Rattle.laws.specs.Choice.{pick}
-use Rattle.text.specs.Digits.{digit}
+use Rattle.syntax.specs.Digits.{digit}
 use borrow.Author.Tests.{lt-ltb, le-ltb}
 use borrow.Author.Needs.{needs}
 use Rattle.text.proofs.writers.digit_of.Statement.{statement}

@@ -3,7 +3,7 @@ use Prim.Native.Nat.{_≤_}
 use mathlib.Core.Path.{_≡_, refl}
 use lib.ListN.{length, length-set}
 use lib.Seq.{sets}
-use Rattle.text.specs.Digits.{spelled}
+use Rattle.syntax.specs.Digits.{spelled}
 use Rattle.text.proofs.writers.Laws.{digit-next, digits-done}
 use native.Mathlib.Omega.{arith}
 use Rattle.text.proofs.writers.put_packed.Statement.{statement}

@@ -1,0 +1,10 @@
+pub mod Pieces
+pub mod Table
+pub mod Reading
+pub mod Places
+pub mod Sources
+pub mod Unlabelled
+pub mod Labels
+pub mod Resolved
+pub mod Cases
+pub mod Lengths

@@ -1,0 +1,11 @@
+pub mod Digits
+pub mod Quoted
+pub mod Pieces
+pub mod Operands
+pub mod Styles
+pub mod Forms
+pub mod Reading
+pub mod Lines
+pub mod Labels
+pub mod Assembly
+pub mod Claims
