@@ -1,0 +1,11 @@
+pub mod Bytes
+pub mod Chains
+pub mod Heads
+pub mod Packed
+pub mod Openings
+pub mod Gathering
+pub mod Zeros
+pub mod Writing
+pub mod Passing
+pub mod Answers
+pub mod Claims
