@@ -1,12 +1,12 @@
 /* The YAM core model: the C interface of the proved library, target/staticlib/libyam_c.a (rt staticlib yam_c).
 
-   Every call takes arbitrary values and lengths, ends, and answers document 01's number: 0 for a pass, else the refusal or stop (docs/refusals.md).
+   Every call takes arbitrary values and lengths, ends, and answers the documents' number: 0 for a pass, else the refusal or stop (docs/refusals.md).
    A list is a pointer and its length in elements. Where a length is 0 the pointer is not read, but must not be null. Lists that a call may write must
    not overlap with any other list of that call. Calls hold no state of their own, so several threads may call at once, each with its own lists.
 
    What a call may write, it writes as said there, and nothing else. `answers` takes what a call answers beside its number, as many as it has room for;
    places beyond are left as they were. Beside a refusal the answers are 0, but a run answers its steps and cycles, 17 its address and rule, a text its
-   place, a listing its place and next address. */
+   place, a listing its place and next address, assembling the line of 24, 25, 26, 6 and 7. */
 #ifndef YAM_H
 #define YAM_H
 #include <stddef.h>
@@ -76,6 +76,13 @@ uint32_t yam_text(const uint32_t *config, size_t config_length, uint32_t word, u
    last whole line, the address of the next line (after 1 and 2 those that were given). 18 keeps the whole lines; other bytes of the page stay. */
 uint32_t yam_list(const uint32_t *config, size_t config_length, const uint32_t *image, size_t image_length, uint64_t first, uint8_t *page,
                   size_t page_length, uint64_t place, uint64_t *answers, size_t answers_length);
+
+/* Reads source text into words (document 02, K1), an instruction a line in the listing's form without address and word: 1; 36 (more than 1,024 lines
+   that start with a label, or more lines that count as a word than words are lent); 24 at the first line that repeats any label; then the first bad
+   line, at one line 26, 25, 6, 7. Newlines part lines, which are numbered from 1. answers: how many words were written, and 0; beside 24, 25, 26, 6 and
+   7 0 and the line. On a pass so many of the first words are written; words beyond stay. On a refusal none is written. */
+uint32_t yam_assemble(const uint32_t *config, size_t config_length, const uint8_t *text, size_t text_length, uint32_t *words, size_t words_length,
+                      uint64_t *answers, size_t answers_length);
 
 /* Loads an image file: 1 where config is not YAM_CONFIG_WORDS long; then 19; block 0 by 20, 21, 22, 1; 19; 2 (image shorter than IM_SIZE); each block
    20, 21; the last filling 22. On a pass config and the first IM_SIZE words of image are written; on a refusal nothing. */

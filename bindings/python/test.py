@@ -1,4 +1,4 @@
-"""Every function of yam.py once or more, on document 01's six words and its cases, and the example. Exit status 1 on a difference."""
+"""Every function of yam.py once or more, on document 01's six words and cases of both documents, and the example. Exit status 1 on a difference."""
 import pathlib
 import subprocess
 import sys
@@ -14,6 +14,15 @@ LISTED = b"""000000 a2860010 MOV %06,#0010
 000003 46860001 ADD %06,#0001
 000004 c1000002 JMP 000002,NZ
 000005 c0000005 JMP 000005
+"""
+SOURCE = """MOV %06,#0010
+LDYX %04,%02
+loop:
+MOVX @%06,@%X+,S
+ADD %06,#0001
+JMP loop,NZ
+
+halt: JMP halt
 """
 RUN = "number 0, 11 steps, 22 cycles, PC 5, RX 5"
 wrong = 0
@@ -46,7 +55,22 @@ same("step", yam.step(config, image, [], *state), (0, 2))
 same("run", yam.run(config, image, [], *state, 10), (0, 10, 20))
 same("16 to 18, %06", (list(state[2][16:19]), state[1][6]), ([7, 8, 9], 19))
 same("run, budget", yam.run(config, image, [], *state, 1000001), (16, 0, 0))
+lent = yam.words([7] * 8)
+same("assemble", (yam.assemble(config, SOURCE, lent), list(lent)), ((0, 6, 0), WORDS + [7, 7]))
+lent = yam.words([7] * 6)
+same("assemble, bytes", (yam.assemble(config, SOURCE.encode(), lent), list(lent)), ((0, 6, 0), WORDS))
+for refused, source, line in [
+    (36, "RET\n" * 7, 0),
+    (24, "RET\nloop:\nFOO\nloop: RET", 4),
+    (26, "RET\n\nRET ", 3),
+    (25, "RET\nloop: JMP lop", 2),
+    (6, "RET\nMUL %00,%01", 2),
+    (7, "RET\nJMP 800000", 2),
+]:
+    lent = yam.words([7] * 6)
+    same(f"assemble, {refused}", (yam.assemble(config, source, lent), list(lent)), ((refused, 0, line), [7] * 6))
+same("assemble, no configuration", yam.assemble([0] * 19, SOURCE, lent), (1, 0, 0))
 example = [sys.executable, str(ROOT / "bindings" / "python" / "example.py"), str(ROOT / "examples" / "six_words.img")]
 same("example", subprocess.run(example, capture_output=True, text=True).stdout.splitlines()[:1], [RUN])
-print("Python: as document 01 says" if wrong == 0 else f"Python: {wrong} differences")
+print("Python: as the documents say" if wrong == 0 else f"Python: {wrong} differences")
 sys.exit(wrong != 0)

@@ -12,7 +12,7 @@ import pathlib
 CONFIG_WORDS, MACHINE_WORDS, INSTRUCTION_WORDS = 19, 100, 6
 _PLACE = pathlib.Path(__file__).resolve().parents[2] / "target" / "python" / "libyam.so"
 _library = ctypes.CDLL(os.environ.get("YAM_LIBRARY", str(_PLACE)))
-for _name in "read write reset step run check text list load store".split():
+for _name in "read write reset step run check text list assemble load store".split():
     getattr(_library, "yam_" + _name).restype = ctypes.c_uint32
 
 
@@ -125,6 +125,14 @@ def listing(config, image, first, page, place):
     """number, place, next address; the page is written"""
     answers = (ctypes.c_uint64 * 2)()
     number = _call("list", _list(ctypes.c_uint32, config), _list(ctypes.c_uint32, image), _number(first), _lent(ctypes.c_uint8, page), _number(place), answers)
+    return (number, *answers)
+
+
+def assemble(config, text, words):
+    """number, how many words were written, line (0 but beside 24, 25, 26, 6, 7); the words are written on a pass. text: bytes, or a string in latin-1"""
+    answers = (ctypes.c_uint64 * 2)()
+    source = text.encode("latin-1") if isinstance(text, str) else text
+    number = _call("assemble", _list(ctypes.c_uint32, config), _list(ctypes.c_uint8, source), _lent(ctypes.c_uint32, words), answers)
     return (number, *answers)
 
 

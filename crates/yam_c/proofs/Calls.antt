@@ -13,9 +13,10 @@ use Rattle.certificate.specs.declared.Checked.the-variants as checked
 use Rattle.certificate.specs.Answers.{answerOf}
 use Rattle.text.specs.Texts.{Text}
 use Rattle.text.specs.Lines.{Listing}
+use Rattle.assembler.specs.Answers as Assembler
 use Rattle.image.specs.Loading.{Load, loadOf}
 use Rattle.yam_c.specs.Flat.{stored, configWords, updated}
-use Rattle.yam_c.specs.Calls.{left, movedTo, stepLeft, runLeft, checkLeft, printed, textLeft, listLeft, filled, loadLeft, loadCall}
+use Rattle.yam_c.specs.Calls.{left, movedTo, stepLeft, runLeft, checkLeft, printed, textLeft, listLeft, assembled, assembleLeft, filled, loadLeft, loadCall}
 
 pub step-done : (o p : Outcome) (machine machine′ answers answers′ : List ℕ) → o ≡ p →
     machine′ ≡ updated (eqb (o .number) 0) (o .state .core) (o .state .stack) machine → answers′ ≡ stored answers 0 (o .cycles ∷ []) →
@@ -56,6 +57,11 @@ pub list-done : (l m : Listing) (answers answers′ : List ℕ) → l ≡ m → 
     printed (l .number) (l .page) answers′ ≡ listLeft m answers
 unfolding listLeft
 list-done l m answers answers′ e k = rw k (ap (λ q. listLeft q answers) e)
+
+pub assemble-done : (a b : Assembler.Answer) (answers answers′ : List ℕ) → a ≡ b → answers′ ≡ stored answers 0 (a .count ∷ a .line ∷ []) →
+    assembled (a .number) (a .words) answers′ ≡ assembleLeft b answers
+unfolding assembleLeft
+assemble-done a b answers answers′ e k = rw k (ap (λ q. assembleLeft q answers) e)
 
 module _ (file config image : List ℕ) where
   pub load-misfit : (length config ≡ 19 → ⊥) → filled 1 config image ≡ loadCall file config image

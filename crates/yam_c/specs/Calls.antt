@@ -13,6 +13,7 @@ use Rattle.machine.specs.Stepping.{End, endOf, machineState}
 use Rattle.rules.specs.Check.{Answer, checkOf}
 use Rattle.text.specs.Texts.{Text, textCall}
 use Rattle.text.specs.Lines.{Listing, listOf}
+use Rattle.assembler.specs.Answers as Assembler
 use Rattle.image.specs.Loading.{Load, loadOf}
 use Rattle.image.specs.Storing.{Store, storeOf}
 use Rattle.yam_c.specs.Flat.{stored, configOf, configWords, instructionOf, instructionWords, machineOf, machineWords, updated}
@@ -123,6 +124,22 @@ listLeft l answers = printed (l .number) (l .page) (stored answers 0 (l .place �
 
 abbrev pub listCall : List ℕ → List ℕ → ℕ → List ℕ → ℕ → List ℕ → Printed
 listCall config image first page place answers = listLeft (listOf (configOf config) image first page place) answers
+
+-- what assembling answers and leaves
+pub record Assembled : Type 0 where
+  pub number : ℕ
+  pub words : List ℕ
+  pub answers : List ℕ
+
+abbrev pub assembled : ℕ → List ℕ → List ℕ → Assembled
+assembled n words answers = record { number = n; words = words; answers = answers }
+
+-- yam_assemble: the answers are how many words were written, and the line that the number names
+unfoldable pub assembleLeft : Assembler.Answer → List ℕ → Assembled
+assembleLeft a answers = assembled (a .number) (a .words) (stored answers 0 (a .count ∷ a .line ∷ []))
+
+abbrev pub assembleCall : List ℕ → List ℕ → List ℕ → List ℕ → Assembled
+assembleCall config text words answers = assembleLeft (Assembler.assembleCall (configOf config) text words) answers
 
 -- yam_load: 1 where the list for the configuration is not nineteen long; both lists are written on a pass only
 pub record Filled : Type 0 where

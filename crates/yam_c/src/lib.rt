@@ -2,7 +2,7 @@
 ghost use mathlib.Core.Path.{_≡_};
 ghost use Rattle.words.specs.Answers.{readingOf, writingOf};
 ghost use Rattle.certificate.specs.Answers.{answerOf};
-ghost use Rattle.yam_c.specs.Calls.{left, readLeft, readCall, writeLeft, writeCall, resetCall, moved, stepCall, runCall, checkLeft, checkCall, printed, textPrinted, listCall, filled, loadCall, storeCall};
+ghost use Rattle.yam_c.specs.Calls.{left, readLeft, readCall, writeLeft, writeCall, resetCall, moved, stepCall, runCall, checkLeft, checkCall, printed, textPrinted, listCall, assembled, assembleCall, filled, loadCall, storeCall};
 
 mod flat;
 
@@ -215,6 +215,21 @@ pub extern "C" fn yam_list(
         place as usize,
     );
     answer_two(answers, r.place as u64, r.next as u64);
+    r.number
+}
+
+// Source text read into words: 1, 36, 24, then the first bad line by 26, 25, 6, 7.
+#[no_mangle]
+pub extern "C" fn yam_assemble(
+    config: &[u32],
+    text: &[u8],
+    words: &mut [u32],
+    answers: &mut [u64],
+) -> u32
+    ensures { λ n. ⌜ assembled n (now (words .exit)) (now (answers .exit)) ≡ assembleCall (now (config .entry)) (now (text .entry)) (now (words .entry)) (now (answers .entry)) ⌝ }
+{
+    let r = assembler::assemble(config_from(config), text, words);
+    answer_two(answers, r.count as u64, r.line as u64);
     r.number
 }
 
