@@ -1,0 +1,22 @@
+MOV %04,#0010
+MOV %05,#0003
+JSR fill
+MOV %04,#0010
+MOV %05,#0003
+JSR total
+halt: JMP halt
+
+fill:
+MOV @%04,%05
+ADD %04,#0001
+SUB %05,#0001,S
+JMP fill,NZ
+RET
+
+total: MOV %06,#0000
+next: MOV %07,@%04
+ADD %06,%07
+ADD %04,#0001
+SUB %05,#0001,S
+JMP next,NZ
+RET
