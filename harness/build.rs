@@ -9,7 +9,7 @@ fn run(command: &mut Command) {
 }
 
 fn compile_plain(out: &Path, with_calls: bool) {
-    let mut sources = vec!["plain.c", "plain_kinds.c", "plain_words.c", "plain_tools.c"];
+    let mut sources = vec!["plain.c", "plain_kinds.c", "plain_words.c", "plain_tools.c", "plain_assemble.c"];
     if with_calls {
         sources.push("plain_calls.c");
     }

@@ -50,4 +50,9 @@ uint32_t plain_list(const struct plain_config *c, const uint32_t *image, uint64_
                     uint64_t place, uint64_t answers[2]);
 /* The text of a word that can be read, without a terminating zero; returns its length. */
 size_t plain_text(uint32_t word, uint8_t *out);
+
+/* Source text into words: 1, 36, 24, 26, 25, 6, 7, or 0. Answers how many words were written, and the
+   line of a refusal that has one. */
+uint32_t plain_assemble(const struct plain_config *c, const uint8_t *text, size_t text_len, uint32_t *words, size_t words_len,
+                        uint64_t answers[2]);
 #endif

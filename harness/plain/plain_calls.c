@@ -211,3 +211,13 @@ uint32_t yam_store(const uint32_t *config, size_t config_length, const uint32_t 
     }
     return 0;
 }
+
+uint32_t yam_assemble(const uint32_t *config, size_t config_length, const uint8_t *text, size_t text_length, uint32_t *words,
+                      size_t words_length, uint64_t *answers, size_t answers_length) {
+    struct plain_config c;
+    uint64_t two[2] = {0, 0};
+    uint32_t number = config_of(config, config_length, &c);
+    if (number == 0) number = plain_assemble(&c, text, text_length, words, words_length, two);
+    answer(answers, answers_length, 2, two[0], two[1]);
+    return number;
+}

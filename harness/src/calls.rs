@@ -20,4 +20,5 @@ pub trait Calls {
     fn list(&self, config: &[u32], image: &[u32], first: u64, page: &mut [u8], place: u64, answers: &mut [u64]) -> u32;
     fn load(&self, file: &[u8], config: &mut [u32], image: &mut [u32]) -> u32;
     fn store(&self, config: &[u32], image: &[u32], file: &mut [u8]) -> u32;
+    fn assemble(&self, config: &[u32], text: &[u8], words: &mut [u32], answers: &mut [u64]) -> u32;
 }

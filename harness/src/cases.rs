@@ -5,6 +5,7 @@ use crate::generate::configs::{self, Size};
 use crate::generate::{files, programs, states, words};
 use crate::model::config::Config;
 use crate::random::Random;
+use crate::texts;
 
 /// A subject: its name, how often it comes in a round, and its case.
 pub struct Subject {
@@ -13,7 +14,7 @@ pub struct Subject {
     pub case: fn(&mut Pair, &mut Random) -> Result<(), String>,
 }
 
-pub const SUBJECTS: [Subject; 10] = [
+pub const SUBJECTS: [Subject; 13] = [
     Subject { name: "configs", weight: 30, case: configs_case },
     Subject { name: "words", weight: 60, case: words_case },
     Subject { name: "sweep", weight: 1, case: sweep_case },
@@ -24,18 +25,21 @@ pub const SUBJECTS: [Subject; 10] = [
     Subject { name: "demand", weight: 60, case: crate::demand::case },
     Subject { name: "reset", weight: 2, case: reset_case },
     Subject { name: "long", weight: 1, case: long_case },
+    Subject { name: "texts", weight: 70, case: texts::short_case },
+    Subject { name: "long_texts", weight: 4, case: texts::long_case },
+    Subject { name: "read_back", weight: 20, case: texts::back_case },
 ];
 
 const MARK: u64 = 0x0123_4567_89ab_cdef;
 
 /// A lent list of answers, mostly as long as it should be.
-fn answers(r: &mut Random, count: usize) -> Vec<u64> {
+pub fn answers(r: &mut Random, count: usize) -> Vec<u64> {
     let length = if r.chance(92) { count } else { r.below(4) as usize };
     vec![MARK; length]
 }
 
 /// A configuration for a call and the lawful one it was made from.
-fn config(r: &mut Random, damaged: u32) -> (Vec<u32>, Config) {
+pub fn config(r: &mut Random, damaged: u32) -> (Vec<u32>, Config) {
     let mut words = configs::lawful(r, Size::Small);
     let lawful = Config::from_words(&words).expect("nineteen words");
     if r.chance(damaged) {

@@ -2,6 +2,7 @@
 
 use crate::calls::{Calls, State};
 use crate::generate::states::Lists;
+use crate::texts::TextsSeen;
 use std::collections::BTreeMap;
 use std::fmt::Debug;
 
@@ -56,6 +57,7 @@ pub struct Pair<'a> {
     pub counts: Counts,
     pub compared: u64,
     pub demand: DemandSeen,
+    pub texts: TextsSeen,
 }
 
 /// Says in which place two lists differ first.
@@ -74,7 +76,7 @@ type Differences = Vec<Option<String>>;
 
 impl<'a> Pair<'a> {
     pub fn new(model: &'a dyn Calls, library: &'a dyn Calls) -> Pair<'a> {
-        Pair { model, library, counts: Counts::new(), compared: 0, demand: DemandSeen::default() }
+        Pair { model, library, counts: Counts::new(), compared: 0, demand: DemandSeen::default(), texts: TextsSeen::default() }
     }
 
     /// Counts the comparison; a difference is said with what was given.
@@ -220,11 +222,35 @@ impl<'a> Pair<'a> {
         let lists = vec![guarded_difference("file", &a, &b)];
         self.judge("store", numbers, lists, || format!("config {config:?}, file of {}, image {image:x?}", file.len()))
     }
+
+    pub fn assemble(&mut self, config: &[u32], text: &[u8], words: &[u32], answers: &[u64]) -> Result<Assembled, String> {
+        let mut a = (Guarded::new(words, WORD_GUARD), Guarded::new(answers, WIDE_GUARD));
+        let mut b = a.clone();
+        let numbers = (
+            self.model.assemble(config, text, a.0.lent(), a.1.lent()),
+            self.library.assemble(config, text, b.0.lent(), b.1.lent()),
+        );
+        let lists = vec![guarded_difference("words", &a.0, &b.0), guarded_difference("answers", &a.1, &b.1)];
+        let given = || {
+            let lengths = (words.len(), answers.len());
+            format!("config {config:?}, (words, answers) of {lengths:?}, text {:?}", String::from_utf8_lossy(text))
+        };
+        let number = self.judge("assemble", numbers, lists, given)?;
+        Ok(Assembled { number, words: a.0.list().to_vec(), answers: a.1.list().to_vec() })
+    }
 }
 
 /// What a step or a run answered.
 pub struct Advanced {
     pub number: u32,
+    pub answers: Vec<u64>,
+}
+
+/// What assembling answered, and the lent words after it.
+#[derive(Clone, Debug, PartialEq, Eq)]
+pub struct Assembled {
+    pub number: u32,
+    pub words: Vec<u32>,
     pub answers: Vec<u64>,
 }
 

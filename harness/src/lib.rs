@@ -5,6 +5,7 @@ pub mod cases;
 pub mod compare;
 pub mod demand;
 pub mod document;
+pub mod document_texts;
 pub mod generate;
 pub mod json;
 pub mod model;
@@ -12,6 +13,8 @@ pub mod plain;
 pub mod random;
 pub mod refusals;
 pub mod speed;
+pub mod speed_texts;
+pub mod texts;
 pub mod vector_parts;
 pub mod vectors;
 #[cfg(any(feature = "library", feature = "plain"))]

@@ -55,6 +55,14 @@ mod c {
             place: u64,
             answers: *mut [u64; 2],
         ) -> u32;
+        pub fn plain_assemble(
+            config: *const [u32; 19],
+            text: *const u8,
+            text_length: usize,
+            words: *mut u32,
+            words_length: usize,
+            answers: *mut [u64; 2],
+        ) -> u32;
     }
 }
 
@@ -108,4 +116,8 @@ pub fn load(file: &[u8], config: &mut [u32; 19], image: &mut [u32]) -> u32 {
 pub fn list(config: &[u32; 19], image: &[u32], first: u64, page: &mut [u8], place: u64, answers: &mut [u64; 2]) -> u32 {
     assert_eq!(image.len(), config[0] as usize);
     unsafe { c::plain_list(config, image.as_ptr(), first, page.as_mut_ptr(), page.len(), place, answers) }
+}
+
+pub fn assemble(config: &[u32; 19], text: &[u8], words: &mut [u32], answers: &mut [u64; 2]) -> u32 {
+    unsafe { c::plain_assemble(config, text.as_ptr(), text.len(), words.as_mut_ptr(), words.len(), answers) }
 }

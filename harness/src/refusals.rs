@@ -92,7 +92,22 @@ pub fn answer(calls: &dyn Calls, example: &str) -> Result<u32, String> {
     let options: Vec<(&str, &str)> =
         fields.map(|f| f.split_once('=').ok_or(format!("{f} is no NAME=VALUE"))).collect::<Result<_, _>>()?;
     let given = |name: &str| options.iter().find(|(n, _)| *n == name).map(|(_, v)| *v);
-    let known = ["image", "word", "machine", "registers", "budget", "page", "certificate", "file", "repair", "file_length"];
+    let known = [
+        "image",
+        "word",
+        "machine",
+        "registers",
+        "budget",
+        "page",
+        "certificate",
+        "file",
+        "repair",
+        "file_length",
+        "text",
+        "repeat",
+        "words",
+        "line",
+    ];
     if let Some((name, _)) = options.iter().find(|(n, _)| !known.contains(n) && !GENERICS.contains(n)) {
         return Err(format!("{name} is no option"));
     }
@@ -129,6 +144,9 @@ pub fn answer(calls: &dyn Calls, example: &str) -> Result<u32, String> {
     let mut page = vec![0; given("page").map_or(Ok(40), value)? as usize];
     let budget = given("budget").map_or(Ok(1), value)?;
     let w = given("word").map_or(Ok(0), word)?;
+    let text = given("text").unwrap_or("").replace('_', " ").replace('/', "\n");
+    let text = text.repeat(given("repeat").map_or(Ok(1), value)? as usize);
+    let mut lent = vec![0; given("words").map_or(Ok(4), value)? as usize];
     let mut answers = [0; 2];
     let state = State {
         machine: &mut machine,
@@ -137,7 +155,7 @@ pub fn answer(calls: &dyn Calls, example: &str) -> Result<u32, String> {
         log_addresses: &mut [],
         log_values: &mut [],
     };
-    Ok(match call {
+    let number = match call {
         "read" => calls.read(&config, w, &mut [0; 6]),
         "step" => calls.step(&config, &image, &[], state, &mut answers),
         "run" => calls.run(&config, &image, &[], state, budget, &mut answers),
@@ -145,15 +163,27 @@ pub fn answer(calls: &dyn Calls, example: &str) -> Result<u32, String> {
         "text" => calls.text(&config, w, &mut page, 0, &mut answers),
         "list" => calls.list(&config, &image, 0, &mut page, 0, &mut answers),
         "load" => calls.load(&file, &mut config, &mut [0; 1]),
+        "assemble" => calls.assemble(&config, text.as_bytes(), &mut lent, &mut answers),
         _ => return Err(format!("{call}: no examples of this call are known")),
-    })
+    };
+    if call == "assemble" && answers != [0, given("line").map_or(Ok(0), value)?] {
+        return Err(format!("`{example}` answers {number} and {answers:?}"));
+    }
+    Ok(number)
 }
 
-/// Every number from 1 to 23 once, in order, and each example answered by its number.
+/// The numbers that the table has, some with more than one example.
+fn numbers() -> Vec<u32> {
+    (1..=26).chain([36]).collect()
+}
+
+/// Every number, in order, and each example answered by its number.
 pub fn run(calls: &dyn Calls) -> Result<usize, String> {
     let lines = lines()?;
-    if !lines.iter().map(|line| line.number).eq(1..=23) {
-        return Err("docs/refusals.md: not the numbers 1 to 23".to_string());
+    let mut said: Vec<u32> = lines.iter().map(|line| line.number).collect();
+    said.dedup();
+    if said != numbers() {
+        return Err("docs/refusals.md: not the numbers 1 to 26 and 36".to_string());
     }
     let mut count = 0;
     for line in &lines {

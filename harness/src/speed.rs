@@ -6,9 +6,10 @@ use crate::model::config::Config;
 use crate::model::machine::Machine;
 use crate::plain::{self, PlainMachine, PlainState};
 use crate::random::Random;
+use crate::speed_texts;
 
 /// W = 32, level 2, 16 registers in four banks, every option on.
-fn config(im_size: u32, dm_size: u32) -> [u32; 19] {
+pub fn config(im_size: u32, dm_size: u32) -> [u32; 19] {
     [im_size, 32, 16, 64, 16, dm_size, 0, 2, 1, 1, 1, 1, 100, 0x1234, 0, 0, 0, 32, 0]
 }
 
@@ -97,7 +98,7 @@ fn processor_time() -> f64 {
 
 /// Times of the library and of the plain program, in nanoseconds a unit, round by round.
 #[derive(Default)]
-struct Times {
+pub struct Times {
     library: Vec<f64>,
     plain: Vec<f64>,
 }
@@ -118,7 +119,7 @@ impl Times {
     }
 
     /// One round: each once, the first of them by turns.
-    fn round(&mut self, units: f64, library: &mut dyn FnMut(), plain: &mut dyn FnMut()) {
+    pub fn round(&mut self, units: f64, library: &mut dyn FnMut(), plain: &mut dyn FnMut()) {
         let time = |work: &mut dyn FnMut()| {
             let start = processor_time();
             work();
@@ -275,9 +276,16 @@ fn whole_images<L: Calls>(library: &L, size: u32, rounds: usize) -> Result<Vec<(
 const SMALL: u32 = 2;
 const LARGE: u32 = 32_768;
 
-fn line(name: &str, unit: &str, times: &Times) {
+pub fn line(name: &str, unit: &str, times: &Times) {
     let (library, plain) = (best(&times.library), best(&times.plain));
     println!("{name:28} library {library:8.2} ns/{unit:5} plain {plain:8.2} ns/{unit:5} ratio {:5.2}", times.ratio());
+}
+
+/// How much dearer a unit is where there are more of them, in the library and in the plain program:
+/// medians of the rounds.
+pub fn grown(small: &Times, large: &Times) -> (f64, f64) {
+    let ratio = |a: &[f64], b: &[f64]| median(b.iter().zip(a).map(|(large, small)| large / small).collect());
+    (ratio(&small.library, &large.library), ratio(&small.plain, &large.plain))
 }
 
 /// Times everything and prints it.
@@ -292,12 +300,8 @@ pub fn report<L: Calls>(library: &L, rounds: usize) -> Result<(), String> {
         }
         line(&format!("{name}, DM_SIZE {SMALL}"), "step", &pair.0.times);
         line(&format!("{name}, DM_SIZE {LARGE}"), "step", &pair.1.times);
-        let grown = |a: &[f64], b: &[f64]| median(b.iter().zip(a).map(|(large, small)| large / small).collect());
-        println!(
-            "{name}, {LARGE} to {SMALL}: library {:.2}, plain {:.2}",
-            grown(&pair.0.times.library, &pair.1.times.library),
-            grown(&pair.0.times.plain, &pair.1.times.plain)
-        );
+        let (library, plain) = grown(&pair.0.times, &pair.1.times);
+        println!("{name}, {LARGE} to {SMALL}: library {library:.2}, plain {plain:.2}");
     }
     line("read", "word", &read_words(library, rounds)?);
     for size in [8_192, 32_768] {
@@ -305,5 +309,5 @@ pub fn report<L: Calls>(library: &L, rounds: usize) -> Result<(), String> {
             line(&format!("{name}, IM_SIZE {size}"), "word", &times);
         }
     }
-    Ok(())
+    speed_texts::report(library, rounds)
 }

@@ -2,7 +2,7 @@
 
 use crate::calls::{Calls, State};
 use crate::json::Json;
-use crate::model::config::FIXED_FIELDS;
+use crate::model::config::{FILE_FIELDS, FIXED_FIELDS};
 use crate::model::machine::{MACHINE_WORDS, STACK_CELLS};
 use crate::vector_parts::{from_vector, to_vector};
 use std::collections::BTreeMap;
@@ -29,6 +29,7 @@ impl From<String> for Trouble {
 }
 
 type Outcome = Result<(), Trouble>;
+type Check = fn(&dyn Calls, &Json) -> Outcome;
 
 fn same<T: PartialEq + std::fmt::Debug>(what: &str, got: T, wanted: T) -> Result<(), String> {
     if got == wanted {
@@ -40,7 +41,7 @@ fn same<T: PartialEq + std::fmt::Debug>(what: &str, got: T, wanted: T) -> Result
 
 pub fn run(calls: &dyn Calls, folder: &Path) -> Result<Report, String> {
     let mut report = Report::default();
-    let files: [(&str, fn(&dyn Calls, &Json) -> Outcome); 8] = [
+    let files: [(&str, Check); 10] = [
         ("read", read),
         ("write", write),
         ("step", step),
@@ -49,22 +50,30 @@ pub fn run(calls: &dyn Calls, folder: &Path) -> Result<Report, String> {
         ("sheet_tiny", sheet),
         ("listing", listing),
         ("load", load),
+        ("k1/read", read),
+        ("k1/text", assemble),
     ];
     for (name, check) in files {
-        let path = folder.join(format!("{name}.jsonl"));
-        let text = std::fs::read_to_string(&path).map_err(|e| format!("{}: {e}", path.display()))?;
-        for (index, line) in text.lines().enumerate() {
-            let place = format!("{name}.jsonl:{}", index + 1);
-            let json = Json::parse(line).map_err(|e| format!("{place}: {e}"))?;
-            let number = json.field("no").word()?;
-            report.add(name, place, number, check(calls, &json));
-        }
+        report.lines(calls, folder, name, check)?;
     }
     images(calls, folder, &mut report)?;
     Ok(report)
 }
 
 impl Report {
+    /// The lines of one file.
+    fn lines(&mut self, calls: &dyn Calls, folder: &Path, name: &str, check: Check) -> Result<(), String> {
+        let path = folder.join(format!("{name}.jsonl"));
+        let text = std::fs::read_to_string(&path).map_err(|e| format!("{}: {e}", path.display()))?;
+        for (index, line) in text.lines().enumerate() {
+            let place = format!("{name}.jsonl:{}", index + 1);
+            let json = Json::parse(line).map_err(|e| format!("{place}: {e}"))?;
+            let number = json.field("no").word()?;
+            self.add(name, place, number, check(calls, &json));
+        }
+        Ok(())
+    }
+
     fn add(&mut self, name: &str, place: String, number: u32, outcome: Outcome) {
         match outcome {
             Err(Trouble::LeftOut(why)) => return self.left_out.push(format!("{place}: {why}")),
@@ -75,10 +84,11 @@ impl Report {
     }
 }
 
-/// The configuration as the calls take it.
+/// The configuration as the calls take it: block 0's fields, or three more with them.
 fn config_of(json: &Json) -> Result<Vec<u32>, String> {
     let mut words = json.field("cfg").words()?;
-    words.extend(FIXED_FIELDS);
+    let more = words.len().saturating_sub(FILE_FIELDS).min(FIXED_FIELDS.len());
+    words.extend(&FIXED_FIELDS[more..]);
     Ok(words)
 }
 
@@ -89,7 +99,7 @@ fn read(calls: &dyn Calls, json: &Json) -> Outcome {
     same("number", calls.read(&config, word, &mut parts), wanted)?;
     if wanted == 0 {
         let named = to_vector(&parts);
-        for (name, value) in named {
+        for (name, value) in named.into_iter().filter(|_| json.field("instr") != &Json::Null) {
             same(name, Some(&value), Some(json.field("instr").field(name)))?;
         }
     } else {
@@ -229,6 +239,26 @@ fn listing(calls: &dyn Calls, json: &Json) -> Outcome {
     same("number", number, json.field("no").word()?)?;
     same("answers", answers, [json.field("place_after").number()?, json.field("next").number()?])?;
     same("page", String::from_utf8_lossy(&page).as_ref(), json.field("page").text()?)?;
+    Ok(())
+}
+
+/// A source text, one byte a character; `answer` is the count of words, or the line.
+fn assemble(calls: &dyn Calls, json: &Json) -> Outcome {
+    let text = json.field("text").text()?;
+    let bytes = text.chars().map(|c| u8::try_from(c).map_err(|_| format!("{c:?} is no byte")));
+    let text: Vec<u8> = bytes.collect::<Result<_, _>>()?;
+    let mut words = vec![0xa5a5_a5a5; json.field("lent").number()? as usize];
+    let mut wanted = words.clone();
+    let (mut answers, answer) = ([7, 7], json.field("answer").number()?);
+    let number = calls.assemble(&config_of(json)?, &text, &mut words, &mut answers);
+    same("number", number, json.field("no").word()?)?;
+    same("answers", answers, if number == 0 { [answer, 0] } else { [0, answer] })?;
+    if number == 0 {
+        let written = json.field("words").words()?;
+        same("count", written.len() as u64, answer)?;
+        wanted[..written.len()].copy_from_slice(&written);
+    }
+    same("words", words, wanted)?;
     Ok(())
 }
 

@@ -109,6 +109,16 @@ mod c {
             file: *mut u8,
             file_length: usize,
         ) -> u32;
+        pub fn yam_assemble(
+            config: *const u32,
+            config_length: usize,
+            text: *const u8,
+            text_length: usize,
+            words: *mut u32,
+            words_length: usize,
+            answers: *mut u64,
+            answers_length: usize,
+        ) -> u32;
     }
 }
 
@@ -241,5 +251,20 @@ impl Calls for Library {
 
     fn store(&self, config: &[u32], image: &[u32], file: &mut [u8]) -> u32 {
         unsafe { c::yam_store(config.as_ptr(), config.len(), image.as_ptr(), image.len(), file.as_mut_ptr(), file.len()) }
+    }
+
+    fn assemble(&self, config: &[u32], text: &[u8], words: &mut [u32], answers: &mut [u64]) -> u32 {
+        unsafe {
+            c::yam_assemble(
+                config.as_ptr(),
+                config.len(),
+                text.as_ptr(),
+                text.len(),
+                words.as_mut_ptr(),
+                words.len(),
+                answers.as_mut_ptr(),
+                answers.len(),
+            )
+        }
     }
 }

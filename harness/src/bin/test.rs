@@ -15,7 +15,7 @@ use yam_harness::cases::{Subject, SUBJECTS};
 use yam_harness::compare::{Counts, Pair};
 use yam_harness::model::Model;
 use yam_harness::random::Random;
-use yam_harness::{document, refusals, vectors, LIBRARY, LIBRARY_NAME};
+use yam_harness::{document, document_texts, refusals, vectors, LIBRARY, LIBRARY_NAME};
 
 /// How many differences are printed, and how much of each.
 const SHOWN: usize = 5;
@@ -99,6 +99,12 @@ fn test(options: &Options) -> Result<bool, String> {
         "demand 3: {} programs passed, {} of them reached the level at 0 (where above 0), {} calls, {} steps",
         seen.programs, seen.reached, seen.calls, seen.steps
     );
+    let texts = pair.texts;
+    println!(
+        "source text: plain C's assembler as the model on {} texts; {} listings of {} words read back, {} refused by 26; {} texts \
+         without labels give {} words whose texts are their lines",
+        texts.plain, texts.back, texts.back_words, texts.unreadable, texts.printed, texts.printed_lines
+    );
     println!("{} comparisons, {} cases with a difference", pair.compared, differences.len());
     let met = options.case.is_some() || every_number_met(&pair.counts);
     Ok(good && met && differences.is_empty())
@@ -130,12 +136,12 @@ fn print_counts(counts: &Counts) {
     for (call, numbers) in counts {
         let all: u64 = numbers.values().sum();
         let each: Vec<String> = numbers.iter().map(|(number, count)| format!("{number}: {count}")).collect();
-        println!("{call:6} {all:8}   {}", each.join(", "));
+        println!("{call:8} {all:8}   {}", each.join(", "));
     }
 }
 
 /// The numbers that each call can answer; 23 is none of them, since no text is that long.
-const POSSIBLE: [(&str, &[u32]); 10] = [
+const POSSIBLE: [(&str, &[u32]); 11] = [
     ("read", &[0, 1, 5, 6, 7]),
     ("write", &[0, 1, 5, 6, 7]),
     ("reset", &[0, 3]),
@@ -146,6 +152,7 @@ const POSSIBLE: [(&str, &[u32]); 10] = [
     ("list", &[0, 1, 2, 18]),
     ("load", &[0, 1, 2, 19, 20, 21, 22]),
     ("store", &[0, 1, 2, 19]),
+    ("assemble", &[0, 1, 6, 7, 24, 25, 26, 36]),
 ];
 
 fn every_number_met(counts: &Counts) -> bool {
@@ -163,7 +170,7 @@ fn every_number_met(counts: &Counts) -> bool {
         }
     }
     if met {
-        println!("every call answered every number that it can, 0 to 22, and no other");
+        println!("every call answered every number that it can, 0 to 22, 24 to 26 and 36, and no other");
     }
     met
 }
@@ -174,7 +181,12 @@ fn run_document(name: &str, calls: &dyn Calls) -> bool {
         Ok(()) => println!("document 01's cases, {name}: as it says"),
         Err(how) => println!("document 01's cases, {name}: {how}"),
     }
-    result.is_ok()
+    let texts = document_texts::run(calls);
+    match &texts {
+        Ok(count) => println!("source texts by document 02, {name}: all {count} as it says"),
+        Err(how) => println!("source texts by document 02, {name}: {how}"),
+    }
+    result.is_ok() && texts.is_ok()
 }
 
 fn run_refusals(name: &str, calls: &dyn Calls) -> bool {

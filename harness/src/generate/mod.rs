@@ -3,5 +3,6 @@
 pub mod configs;
 pub mod files;
 pub mod programs;
+pub mod sources;
 pub mod states;
 pub mod words;

@@ -1,10 +1,11 @@
 //! The model behind the calls of the C interface: lists of any length, refusals first.
 
+use super::assemble::Refusal;
 use super::config::{Config, CONFIG_WORDS};
 use super::machine::{admit, Env, Lists, Machine, MACHINE_WORDS};
 use super::sheet::Checked;
 use super::words::Instruction;
-use super::{image, listing, sheet, step, words};
+use super::{assemble, image, listing, sheet, step, words};
 use crate::calls::{Calls, State};
 
 pub struct Model;
@@ -144,6 +145,22 @@ impl Calls for Model {
             file.copy_from_slice(&bytes);
             Ok(())
         })())
+    }
+
+    fn assemble(&self, config: &[u32], text: &[u8], words: &mut [u32], answers: &mut [u64]) -> u32 {
+        let assembled = match Config::lawful_from_words(config) {
+            None => Err(Refusal { number: 1, line: 0 }),
+            Some(c) => assemble::assemble(&c, text, words.len()),
+        };
+        let (number, values) = match assembled {
+            Ok(written) => {
+                words[..written.len()].copy_from_slice(&written);
+                (0, [written.len() as u64, 0])
+            }
+            Err(refusal) => (refusal.number, [0, refusal.line]),
+        };
+        answer(answers, &values);
+        number
     }
 }
 

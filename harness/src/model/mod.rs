@@ -1,6 +1,7 @@
-//! A model of the YAM core written from document 01 and the manual alone, to compare the library with. Clear rather than fast.
+//! A model of the YAM core written from documents 01 and 02 and the manual alone, to compare the library with. Clear rather than fast.
 
 pub mod alu;
+pub mod assemble;
 pub mod config;
 pub mod image;
 pub mod listing;
