@@ -27,7 +27,7 @@ use Rattle.syntax.proofs.Reading.{formAt, claims, none-claims}
 use Rattle.syntax.proofs.Places.{form-fits}
 use Rattle.assembler.specs.Bytes.{byteBefore}
 use Rattle.assembler.specs.Heads.{markOf, keyOf, headTable, linkTable}
-use Rattle.assembler.specs.Packed.{codes, formTable, Padded, isFormIn, Shown, readIn, Lent}
+use Rattle.assembler.specs.Packed.{codes, formTable, Padded, isFormIn, Shown, readIn, Lent, Finds}
 use Rattle.assembler.proofs.Packed.{Line-at, line-at, line-part, early, sound-at, lengthOf, fits-length, table-length, parts-shown, padded, read-in, in-form, form-in}
 
 -- the key of a line is that of its form's pattern
@@ -198,3 +198,19 @@ module _ (forms links heads t : List ℕ) (at n : ℕ) (given : Lent forms links
       let c = in-form (q - 1) l t at n u i (rw (lent .forms-right) at (true-is (isFormIn forms (q - 1) t at n) (sym e ∙ f))) .1 in
       let w = rw (← lent .forms-right) at (parts-shown (q - 1) at (length t) u (rw c at (given .1))) in
       (u, rw (lent .forms-right) table-length, w .0, w .1, w .2)
+
+  -- what is found
+
+  pub finds-none : 16 < n → Finds forms t at n 0
+  finds-none h = record { none = λ _. sym (too-long h); some = λ z. absurd (z refl) }
+
+  pub finds-left : (q r : ℕ) → Left forms links t at n q → q ≡ 0 → r ≡ 0 → Finds forms t at n r
+  finds-left q r s z y = record { none = λ _. sym (none-left q s z); some = λ x. absurd (x y) }
+
+  pub finds-one : (q : ℕ) (b : Bool) → Left forms links t at n q → 0 < q → b ≡ isFormIn forms (q - 1) t at n → b ≡ true → Finds forms t at n q
+  finds-one q b s h e f =
+      let w = read-ready q b s h e f in
+      record {
+        none = λ z. absurd (omega (arith, z));
+        some = λ _. record { below = w .0; long = w .1; upper = w .2; lower = w .3; rest = w .4; reads = one-found q b (readIn forms (q - 1) (drop at t)) s h e f refl };
+      }

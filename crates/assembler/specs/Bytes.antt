@@ -1,8 +1,9 @@
 -- Bytes and lines of a text, as code reads them. Nothing here is to be believed: proofs/bytes/Laws.antt ties it to syntax's Lines.
 use mathlib.Core.Path.{_≡_}
+use mathlib.Core.Bool.{Bool, _&&_}
 use mathlib.Core.List.{List, [], _∷_}
 use Prim.Native.Nat.{ℕ, zero, suc, _+_, _-_, _*_, _<_, _≤_}
-use lib.Dec.{eqb, leb}
+use lib.Dec.{eqb, ltb, leb}
 use lib.ListN.{length, getD, drop}
 use lib.Seq.{slice}
 use Rattle.laws.specs.Choice.{pick}
@@ -11,6 +12,10 @@ use Rattle.syntax.specs.Lines.{linesOf}
 -- byte j from the end, counted from 1; before the start 0
 unfoldable pub byteBefore : List ℕ → ℕ → ℕ
 byteBefore l j = pick (leb j (length l)) (getD l (length l - j) 0) 0
+
+-- a small letter beyond f
+unfoldable pub isBeyond : ℕ → Bool
+isBeyond b = ltb 102 b && leb b 122
 
 -- which of the n bytes from s on are newlines: bit j says it of byte j
 abbrev pub newlinesIn : ℕ → List ℕ → ℕ → ℕ

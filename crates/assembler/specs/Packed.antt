@@ -1,17 +1,18 @@
 -- The forms as code holds them: 32 bytes each. Nothing here is to be believed: proofs/Packed.antt ties it to syntax's Forms.
-use Prim.Native.Nat.{ℕ, zero, suc, _+_, _*_, _<_, _≤_}
+use Prim.Native.Nat.{ℕ, zero, suc, _+_, _-_, _*_, _<_, _≤_}
 use mathlib.Core.Bool.{Bool, true, false, _&&_, _||_}
 use mathlib.Core.Path.{_≡_}
 use mathlib.Core.List.{List, [], _∷_, _++_}
 use lib.Dec.{eqb}
 use lib.ListN.{length, getD, drop}
+use lib.Seq.{slice}
 use Rattle.laws.specs.Lists.{column}
 use Rattle.words.specs.declared.Instruction.{Instruction}
 use Rattle.words.specs.Frames.{DESTINATION, SOURCE, VALUE}
 use Rattle.syntax.specs.Pieces.{Class, byte, pattern, widthIn, placeIn, isHex, numberIn}
 use Rattle.syntax.specs.Pieces.Class.{digit as any}
 use Rattle.syntax.specs.Forms.{Form, piecesOf, forms}
-use Rattle.syntax.specs.Reading.{Line, found, unread}
+use Rattle.syntax.specs.Reading.{Line, found, unread, readLine}
 use Rattle.assembler.specs.Heads.{headTable, linkTable}
 use Rattle.assembler.specs.declared.Parsed.{Parsed}
 use Rattle.assembler.specs.declared.Parsed.the-variants.{Found, Unread}
@@ -90,3 +91,17 @@ readIn t q l =
       number = getD t (32 * q + 19) 0;
       value = partIn t (32 * q + 24) l;
     }
+
+-- the form of the n bytes of t from `at` on is that of number r, counted from 1, by which they are read; 0 where they are in none
+
+pub record Ready (forms t : List ℕ) (at n r : ℕ) : Type 0 where
+  pub below : r - 1 < 186
+  pub long : length forms ≡ 5952
+  pub upper : Shown forms (32 * (r - 1) + 20) at (length t)
+  pub lower : Shown forms (32 * (r - 1) + 22) at (length t)
+  pub rest : Shown forms (32 * (r - 1) + 24) at (length t)
+  pub reads : found (readIn forms (r - 1) (drop at t)) ≡ readLine (slice at (at + n) t)
+
+pub record Finds (forms t : List ℕ) (at n r : ℕ) : Type 0 where
+  pub none : r ≡ 0 → readLine (slice at (at + n) t) ≡ unread
+  pub some : (r ≡ 0 → ⊥) → Ready forms t at n r

@@ -6,7 +6,7 @@ ghost use Rattle.syntax.specs.Pieces.{isHex};
 ghost use Rattle.syntax.specs.Lines.{isSmall, lettersOf};
 ghost use Rattle.syntax.specs.Labels.{nameLength};
 ghost use Rattle.laws.specs.Choice.{pick};
-ghost use Rattle.assembler.specs.Bytes.{byteBefore, newlinesIn, Ended, LineEnd};
+ghost use Rattle.assembler.specs.Bytes.{byteBefore, isBeyond, newlinesIn, Ended, LineEnd};
 
 // How many bytes are looked at in one go.
 const BLOCK: usize = 16;
@@ -52,6 +52,13 @@ pub fn is_small(b: u8) -> bool
     ensures { λ r. ⌜ r ≡ isSmall b ⌝ }
 {
     (SMALL_A <= b) & (b <= SMALL_Z)
+}
+
+// A small letter beyond f, which no form has.
+pub fn is_beyond(b: u8) -> bool
+    ensures { λ r. ⌜ r ≡ isBeyond b ⌝ }
+{
+    (SMALL_F < b) & (b <= SMALL_Z)
 }
 
 fn bit(b: bool) -> u32

@@ -3,12 +3,9 @@ ghost use mathlib.Core.Path.{_≡_};
 ghost use mathlib.Core.Bool.{not};
 ghost use Prim.Native.Nat.{_+_, _*_, _<_, _≤_};
 ghost use lib.ListN.{length, getD, drop};
-ghost use lib.Seq.{slice};
 ghost use Rattle.syntax.specs.Pieces.{numberIn};
-ghost use Rattle.syntax.specs.Reading.{readLine};
 ghost use Rattle.assembler.specs.Heads.{markOf, keyOf};
-ghost use Rattle.assembler.specs.Packed.{lineOf, admits, matching, Padded, isFormIn, partIn, Shown, readIn, Lent};
-use crate::Parsed;
+ghost use Rattle.assembler.specs.Packed.{admits, matching, Padded, isFormIn, partIn, Shown, readIn, Finds, Lent};
 use crate::bytes::byte_at;
 use crate::bytes::byte_before;
 use crate::bytes::is_hex;
@@ -117,7 +114,7 @@ fn part_of(forms: &[u8], k: usize, t: &[u8], at: usize) -> u32
 }
 
 // What form q reads off the line at `at`.
-fn read_by(forms: &[u8], q: usize, t: &[u8], at: usize) -> Instruction
+pub fn read_by(forms: &[u8], q: usize, t: &[u8], at: usize) -> Instruction
     requires { ⌜ (q < 186) × (length (now forms) ≡ 5952) × Shown (now forms) (32 * q + 20) at (length (now t)) × Shown (now forms) (32 * q + 22) at (length (now t)) × Shown (now forms) (32 * q + 24) at (length (now t)) ⌝ }
     ensures { λ r. ⌜ r ≡ readIn (now (forms .entry)) q (drop at (now (t .entry))) ⌝ }
 {
@@ -161,21 +158,21 @@ fn key_of(line: &[u8]) -> usize
     ((START * start + SHAPE * shape) / DIVISOR % KEYS) as usize
 }
 
-// The instruction that the n bytes from `at` on spell, if they are in a form.
-pub fn read_line(forms: &[u8], links: &[u8], heads: &[u8], t: &[u8], at: usize, n: usize) -> Parsed
+// The form of the n bytes from `at` on, counted from 1, by which they are read; 0 where they are in none.
+pub fn find_form(forms: &[u8], links: &[u8], heads: &[u8], t: &[u8], at: usize, n: usize) -> usize
     requires { ⌜ Lent (now forms) (now links) (now heads) × (at + n ≤ length (now t)) ⌝ }
-    ensures { λ r. ⌜ lineOf r ≡ readLine (slice at (at + n) (now (t .entry))) ⌝ }
+    ensures { λ r. ⌜ Finds (now (forms .entry)) (now (t .entry)) at n r ⌝ }
 {
     if PATTERN < n {
-        return Parsed::Unread;
+        return 0;
     }
     let h = key_of(&t[at..at + n]);
     let mut q = byte_at(heads, h) as usize;
     while 0 < q {
         if is_form(forms, q - 1, t, at, n) {
-            return Parsed::Found(read_by(forms, q - 1, t, at));
+            return q;
         }
         q = byte_at(links, q - 1) as usize;
     }
-    Parsed::Unread
+    0
 }

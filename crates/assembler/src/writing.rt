@@ -6,14 +6,16 @@ ghost use lib.Seq.{slice};
 ghost use Rattle.words.specs.Words.{writeLawful};
 ghost use Rattle.syntax.specs.Labels.{setTarget};
 ghost use Rattle.syntax.specs.Reading.{unread, readLine};
-ghost use Rattle.assembler.specs.Packed.{Lent, lineOf};
+ghost use Rattle.assembler.specs.Packed.{Lent, lineOf, Finds};
 ghost use Rattle.assembler.specs.Writing.{outcomeOf, Writers, Searched, aimedWord, Worded};
 ghost use Rattle.assembler.specs.Zeros.{zeroed};
 use crate::Parsed;
 use crate::bytes::DIGIT_0;
+use crate::bytes::is_beyond;
 use crate::bytes::letters_in;
 use crate::bytes::name_length;
-use crate::forms::read_line;
+use crate::forms::find_form;
+use crate::forms::read_by;
 use crate::labels::NOWHERE;
 use crate::labels::address_of;
 use crate::labels::label_key;
@@ -27,6 +29,9 @@ use words::Writing;
 const UNKNOWN: u32 = 25;
 
 const NOT_IN_FORM: u32 = 26;
+
+// The place of a line's fifth byte.
+const FIFTH: usize = 4;
 
 // The longest line of any form.
 const LONGEST: usize = 16;
@@ -94,7 +99,11 @@ fn read_zeroed(
     }
     let mut room = [DIGIT_0; LONGEST];
     put_zeroed(line, from, m, n, &mut room);
-    read_line(forms, links, heads, &room, 0, n)
+    let q = find_form(forms, links, heads, &room, 0, n);
+    if q == 0 {
+        return Parsed::Unread;
+    }
+    Parsed::Found(read_by(forms, q - 1, &room, 0))
 }
 
 // The word of an instruction whose target's label has the address a, or has none.
@@ -157,6 +166,19 @@ fn write_target(
     }
 }
 
+// The form of a line as it stands. Most labels are told by the fifth byte, behind a name of three letters and a space: a line with such a byte is in no form.
+fn find_plain(forms: &[u8], links: &[u8], heads: &[u8], text: &[u8], at: usize, n: usize) -> usize
+    requires { ⌜ Lent (now forms) (now links) (now heads) × (at + n ≤ length (now text)) ⌝ }
+    ensures { λ r. ⌜ Finds (now (forms .entry)) (now (text .entry)) at n r ⌝ }
+{
+    if FIFTH < n {
+        if is_beyond(text[at + FIFTH]) {
+            return 0;
+        }
+    }
+    find_form(forms, links, heads, text, at, n)
+}
+
 // The word of the instruction that stands from `at` up to `end`.
 pub fn word_at(
     c: Config,
@@ -179,24 +201,31 @@ pub fn word_at(
     requires { ⌜ Writers c (now bases) (now packs) (now options) (now limits) × Lent (now forms) (now links) (now heads) × Searched (now chains) (now nexts) (now keys) (now places) labels × (at ≤ end) × (end ≤ length (now text)) ⌝ }
     ensures { λ r. ⌜ Worded c (now (chains .entry)) (now (nexts .entry)) (now (keys .entry)) (now (places .entry)) labels (slice at end (now (text .entry))) r ⌝ }
 {
-    let p = read_line(forms, links, heads, text, at, end - at);
-    match p {
-        Parsed::Found(i) => write(c, bases, packs, options, limits, i),
-        Parsed::Unread => write_target(
+    let q = find_plain(forms, links, heads, text, at, end - at);
+    if q != 0 {
+        return write(
             c,
             bases,
             packs,
             options,
             limits,
-            forms,
-            links,
-            heads,
-            chains,
-            nexts,
-            keys,
-            places,
-            labels,
-            &text[at..end],
-        ),
+            read_by(forms, q - 1, text, at),
+        );
     }
+    write_target(
+        c,
+        bases,
+        packs,
+        options,
+        limits,
+        forms,
+        links,
+        heads,
+        chains,
+        nexts,
+        keys,
+        places,
+        labels,
+        &text[at..end],
+    )
 }

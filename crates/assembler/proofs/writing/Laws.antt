@@ -1,13 +1,14 @@
 -- A line's word: what the code finds is what syntax's `givenBy` gives.
 -- Assumes nothing.
-use Prim.Native.Nat.{ℕ, zero, suc, _+_, _-_, _<_, _≤_}
+use Prim.Native.Nat.{ℕ, zero, suc, _+_, _-_, _*_, _<_, _≤_}
 use mathlib.Core.Bool.{Bool, true, false, not, _&&_}
 use mathlib.Core.Path.{_≡_, refl, ap, sym, subst, _∙_}
 use mathlib.Core.List.{List, [], _∷_}
+use native.Mathlib.Nat.{le-of-suc-le-suc, not-suc-le-zero}
 use native.Mathlib.Omega.{arith}
 use borrow.Author.Tests.{eqb-true, eqb-false, eq-eqb, ne-eqb, lt-ltb, le-ltb, ltb-true, ltb-false}
-use lib.Dec.{T, eqb, ltb}
-use lib.ListN.{length, take, drop, length-drop, drop-of-length-le}
+use lib.Dec.{T, eqb, ltb, leb, T-not}
+use lib.ListN.{length, getD, take, drop, length-drop, drop-of-length-le}
 use lib.Seq.{slice, take-all}
 use Rattle.laws.specs.Choice.{pick, is-true, is-false, true-is}
 use Rattle.laws.specs.Test.{Test, test, Holds, holds, and-left, and-right}
@@ -30,11 +31,12 @@ use Rattle.syntax.specs.Lines.{lettersOf, beyond, isLabel}
 use Rattle.syntax.specs.Labels.{Label, Found, at, nowhere, addressOf, nameLength, operandsOf, targetOf, withAddress, setTarget, Given, plainly, labelwise, givenBy}
 use Rattle.syntax.specs.Reading.{Line, found, unread, readLine}
 use Rattle.syntax.specs.Assembly.{wordGiven}
-use Rattle.syntax.proofs.Sources.{plain-read, no-target}
+use Rattle.syntax.proofs.Sources.{okByte, clean, plain-read, no-target}
 use Rattle.assembler.specs.declared.Parsed.{Parsed}
 use Rattle.assembler.specs.declared.Parsed.the-variants as parsed
 use Rattle.assembler.specs.declared.Parsed.the-variants.{Unread}
-use Rattle.assembler.specs.Packed.{lineOf}
+use Rattle.assembler.specs.Bytes.{isBeyond}
+use Rattle.assembler.specs.Packed.{lineOf, Shown, readIn, Finds}
 use Rattle.assembler.specs.declared.writing.Outcome.{Outcome}
 use Rattle.assembler.specs.Chains.{spell, labelKey, lookup, capped, placeOf, aim}
 use Rattle.assembler.specs.Gathering.{Tabled}
@@ -44,6 +46,7 @@ use Rattle.assembler.proofs.bytes.Laws.{part-line}
 use Rattle.assembler.proofs.labels.Laws.{letters-small, key-test, key-some, keyed-address}
 use Rattle.assembler.proofs.zeros.Laws.{length-zeroed, with-zeros}
 use Rattle.assembler.proofs.Heads.{read-long}
+use Rattle.assembler.proofs.Packed.{line-at}
 
 -- what was parsed
 
@@ -253,6 +256,39 @@ module _ (c : Config) (chains nexts keys places l : List ℕ) (n name : ℕ) (r 
         in
         w ∙ ap (aimedWord c i) g ∙ aimed-is c i (addressOf labels s) lawfully ∙
         sym (ap (wordGiven c) (by-zeroed (found i) h e u labels))
+
+-- a line with a letter beyond f is in no form
+
+clean-at : (l : List ℕ) (j : ℕ) → T (clean l) → j < length l → T (okByte (getD l j 0))
+clean-at [] j c h = absurd (not-suc-le-zero h)
+clean-at (b ∷ l) zero c h = and-left (okByte b) (clean l) c
+clean-at (b ∷ l) (suc j) c h = clean-at l j (and-right (okByte b) (clean l) c) (le-of-suc-le-suc h)
+
+not-beyond : (b : ℕ) → T (okByte b) → isBeyond b ≡ true → ⊥
+unfolding isBeyond
+not-beyond b o e = T-not (leb 103 b && leb b 122) (and-right (not (eqb b 10)) (not (leb 103 b && leb b 122)) o) (true-is (leb 103 b && leb b 122) e)
+
+far-unread : (l : List ℕ) (j : ℕ) → j < length l → isBeyond (getD l j 0) ≡ true → readLine l ≡ unread
+far-unread l j h e = go (readLine l) refl
+  where
+    go : (y : Line) → readLine l ≡ y → readLine l ≡ unread
+    go (found i) q = absurd (not-beyond (getD l j 0) (clean-at l j (plain-read l i q .is-clean) h) e)
+    go unread q = q
+
+pub finds-far : (forms t : List ℕ) (s n j : ℕ) (b : Bool) → s + n ≤ length t → j < n → b ≡ isBeyond (getD t (s + j) 0) → b ≡ true → Finds forms t s n 0
+finds-far forms t s n j b h k e f =
+    let i = line-at t s n h in
+    let u = far-unread (slice s (s + n) t) j (omega (arith, i .long)) (ap isBeyond (i .each j k) ∙ sym e ∙ f) in
+    record { none = λ _. u; some = λ z. absurd (z refl) }
+
+-- what a form that was found reads
+
+pub ready-by : (forms t : List ℕ) (s n r : ℕ) → Finds forms t s n r → (r ≡ 0 → ⊥) →
+    (r - 1 < 186) × (length forms ≡ 5952) × Shown forms (32 * (r - 1) + 20) s (length t) × Shown forms (32 * (r - 1) + 22) s (length t) × Shown forms (32 * (r - 1) + 24) s (length t)
+ready-by forms t s n r d z = let w = d .some z in (w .below, w .long, w .upper, w .lower, w .rest)
+
+pub found-by : (forms t : List ℕ) (s n r : ℕ) (i : Instruction) → Finds forms t s n r → (r ≡ 0 → ⊥) → i ≡ readIn forms (r - 1) (drop s t) → found i ≡ readLine (slice s (s + n) t)
+found-by forms t s n r i d z e = ap found e ∙ d .some z .reads
 
 -- where the text from s up to e is read as a line
 pub line-read : (text : List ℕ) (s e : ℕ) (y : Line) → s ≤ e → y ≡ readLine (slice s (s + (e - s)) text) → y ≡ readLine (slice s e text)
