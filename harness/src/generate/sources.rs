@@ -203,11 +203,11 @@ pub fn short(r: &mut Random, c: &Config) -> Vec<u8> {
     text
 }
 
-/// The n-th of many labels, all different.
+/// The n-th of many labels, all different; a quarter start with a letter that is also a digit.
 pub fn numbered_label(n: u32) -> String {
     let letters = [n / 676 % 26, n / 26 % 26, n % 26];
     let end: String = letters.iter().map(|&letter| char::from(b'a' + letter as u8)).collect();
-    format!("{}{end}", ["q", "loop", "subroutin"][n as usize % 3])
+    format!("{}{end}", ["q", "done", "loop", "subroutin"][n as usize % 4])
 }
 
 /// A long text: as many label lines as there may be or one more or less, only newlines, every byte,
