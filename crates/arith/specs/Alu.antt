@@ -1,6 +1,6 @@
 -- Every operation of levels 0 to 2 at width w: d is the destination's word, s the source's, n the flag N before. Shifts move d, "a
 -- register count is its low four bits"; rotates, SHL16, ABS, CLZ and byte loads take s.
-use Prim.Native.Nat.{ℕ, _%_}
+use Prim.Native.Nat.{ℕ, _%_, _^_, _≤_, _<_}
 use Rattle.arith.specs.Logic.{andOf, orOf, xorOf}
 use Rattle.arith.specs.Sums.{addOf, subOf, subsOf}
 use Rattle.arith.specs.Shifts.{shlOf, shrOf, shraOf, rotlOf, rotrOf}
@@ -30,3 +30,9 @@ aluOf w Clz d s n = clzOf w s
 aluOf w (Bst k) d s n = bstOf w (k % 4) d s
 aluOf w (Bld k) d s n = bldOf (k % 4) s
 aluOf w (Blds k) d s n = bldsOf w (k % 4) s
+
+-- operands that are words of w bits, and a flag
+pub record Within (w d s n : ℕ) : Type 0 where
+  pub left : d < 2 ^ w
+  pub right : s < 2 ^ w
+  pub flag : n ≤ 1

@@ -35,7 +35,7 @@ use words::Operation;
 ghost use mathlib.Core.Path.{_≡_};
 ghost use Prim.Native.Nat.{_%_, _^_};
 ghost use Rattle.arith.specs.Width.{bits};
-ghost use Rattle.arith.specs.Alu.{aluOf};
+ghost use Rattle.arith.specs.Alu.{aluOf, Within};
 ghost use Rattle.arith.specs.Multiply.{mulOf};
 ghost use Rattle.arith.specs.Immediates.{immediateOf};
 
@@ -58,29 +58,34 @@ pub fn alu(width: u32, op: Operation, d: u32, s: u32, n: u64) -> Word
     ensures { λ r. ⌜ r ≡ aluOf (bits width) op (d % 2 ^ bits width) (s % 2 ^ bits width) (n % 2) ⌝ }
 {
     let w = bits_of(width);
-    let a = truncate(w, d);
-    let b = truncate(w, s);
-    let c = n % 2;
+    alu_within(width, op, truncate(w, d), truncate(w, s), n % 2)
+}
+
+// The same for operands that are words already, which are not cut again: for others the answer is some word.
+pub fn alu_within(width: u32, op: Operation, d: u32, s: u32, n: u64) -> Word
+    ensures { λ r. ⌜ (Within (bits width) d s n → r ≡ aluOf (bits width) op d s n) ⌝ }
+{
+    let w = bits_of(width);
     match op {
-        Operation::And => and_word(a, b, c),
-        Operation::Or => or_word(a, b, c),
-        Operation::Xor => xor_word(a, b, c),
-        Operation::Add => add_word(w, a, b, 0),
-        Operation::Addc => add_word(w, a, b, c),
-        Operation::Sub => sub_word(w, a, b, 0),
-        Operation::Subc => sub_word(w, a, b, c),
-        Operation::Subs => subs_word(w, a, b),
-        Operation::Shl => shl_word(w, a, b % 16),
-        Operation::Shr => shr_word(w, a, b % 16),
-        Operation::Shra => shra_word(w, a, b % 16),
-        Operation::Rotl => rotl_word(w, b),
-        Operation::Rotr => rotr_word(w, b),
-        Operation::Shl16 => shl_word(w, b, 16),
-        Operation::Abs => abs_word(w, b),
-        Operation::Clz => clz_word(w, b),
-        Operation::Bst(k) => bst_word(w, k % 4, a, b),
-        Operation::Bld(k) => bld_word(k % 4, b),
-        Operation::Blds(k) => blds_word(w, k % 4, b),
+        Operation::And => and_word(d, s, n),
+        Operation::Or => or_word(d, s, n),
+        Operation::Xor => xor_word(d, s, n),
+        Operation::Add => add_word(w, d, s, 0),
+        Operation::Addc => add_word(w, d, s, n % 2),
+        Operation::Sub => sub_word(w, d, s, 0),
+        Operation::Subc => sub_word(w, d, s, n % 2),
+        Operation::Subs => subs_word(w, d, s),
+        Operation::Shl => shl_word(w, d, s % 16),
+        Operation::Shr => shr_word(w, d, s % 16),
+        Operation::Shra => shra_word(w, truncate(w, d), s % 16),
+        Operation::Rotl => rotl_word(w, s),
+        Operation::Rotr => rotr_word(w, s),
+        Operation::Shl16 => shl_word(w, s, 16),
+        Operation::Abs => abs_word(w, truncate(w, s)),
+        Operation::Clz => clz_word(w, truncate(w, s)),
+        Operation::Bst(k) => bst_word(w, k % 4, d, s),
+        Operation::Bld(k) => bld_word(k % 4, s),
+        Operation::Blds(k) => blds_word(w, k % 4, s),
     }
 }
 

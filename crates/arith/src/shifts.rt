@@ -62,16 +62,16 @@ pub fn shra_word(w: u32, a: u32, k: u32) -> Word
 }
 
 pub fn rotl_word(w: u32, a: u32) -> Word
-    requires { ⌜ Words w a a ⌝ }
-    ensures { λ r. ⌜ r ≡ rotlOf w a ⌝ }
+    requires { ⌜ Width w ⌝ }
+    ensures { λ r. ⌜ (Words w a a → r ≡ rotlOf w a) ⌝ }
 {
     let rest = truncate(w - 1, a);
     moved_left(w, a, (rest << 1) | (a >> (w - 1)))
 }
 
 pub fn rotr_word(w: u32, a: u32) -> Word
-    requires { ⌜ Words w a a ⌝ }
-    ensures { λ r. ⌜ r ≡ rotrOf w a ⌝ }
+    requires { ⌜ Width w ⌝ }
+    ensures { λ r. ⌜ (Words w a a → r ≡ rotrOf w a) ⌝ }
 {
     moved_right(w, a, ((a % 2) << (w - 1)) | (a >> 1))
 }

@@ -1,4 +1,5 @@
 // ADD, ADDC, SUB, SUBC, SUBS, and the flags of CMP and CMPS: manual 5.1.1. Sums and differences wrap at 32 bits and are cut to W.
+// They are safe for any operands; a difference is promised of words only.
 use super::Word;
 use super::width::flag;
 use super::width::power;
@@ -7,12 +8,12 @@ use super::width::truncate;
 use super::width::word_of;
 ghost use mathlib.Core.Path.{_≡_};
 ghost use Prim.Native.Nat.{_≤_};
-ghost use Rattle.arith.specs.Width.{Words};
+ghost use Rattle.arith.specs.Width.{Width, Words};
 ghost use Rattle.arith.specs.Sums.{addOf, difference, subOf, subsOf};
 
 // ADD with the carry c = 0, ADDC with c the old N.
 pub fn add_word(w: u32, a: u32, b: u32, c: u64) -> Word
-    requires { ⌜ Words w a b × (c ≤ 1) ⌝ }
+    requires { ⌜ Width w × (c ≤ 1) ⌝ }
     ensures { λ r. ⌜ r ≡ addOf w a b c ⌝ }
 {
     let value = truncate(
@@ -25,8 +26,8 @@ pub fn add_word(w: u32, a: u32, b: u32, c: u64) -> Word
 
 // a less b less c, at the width.
 fn subtract(w: u32, a: u32, b: u32, c: u64) -> u32
-    requires { ⌜ Words w a b × (c ≤ 1) ⌝ }
-    ensures { λ r. ⌜ r ≡ difference w a b c ⌝ }
+    requires { ⌜ Width w × (c ≤ 1) ⌝ }
+    ensures { λ r. ⌜ (Words w a b → r ≡ difference w a b c) ⌝ }
 {
     truncate(
         w,
@@ -36,8 +37,8 @@ fn subtract(w: u32, a: u32, b: u32, c: u64) -> u32
 
 // SUB with the borrow c = 0, SUBC with c the old N.
 pub fn sub_word(w: u32, a: u32, b: u32, c: u64) -> Word
-    requires { ⌜ Words w a b × (c ≤ 1) ⌝ }
-    ensures { λ r. ⌜ r ≡ subOf w a b c ⌝ }
+    requires { ⌜ Width w × (c ≤ 1) ⌝ }
+    ensures { λ r. ⌜ (Words w a b → r ≡ subOf w a b c) ⌝ }
 {
     let taken = (b as u64) + c;
     word_of(subtract(w, a, b, c), flag((a as u64) < taken))
@@ -45,8 +46,8 @@ pub fn sub_word(w: u32, a: u32, b: u32, c: u64) -> Word
 
 // Words with their top bits flipped compare as their signed values do.
 pub fn subs_word(w: u32, a: u32, b: u32) -> Word
-    requires { ⌜ Words w a b ⌝ }
-    ensures { λ r. ⌜ r ≡ subsOf w a b ⌝ }
+    requires { ⌜ Width w ⌝ }
+    ensures { λ r. ⌜ (Words w a b → r ≡ subsOf w a b) ⌝ }
 {
     let value = subtract(w, a, b, 0);
     let h = top_bit(w);

@@ -8,7 +8,7 @@ use Rattle.arith.proofs.shifts.rotl_word.Tie as tie
 
 returns : tie.Need-returns
 unfolding rotlOf
-returns c = rw (c .moved-left .ensures, c .before .truncate .ensures, rotl-code _ _ (c .before .before .pre))
+returns c h = rw (c .moved-left .ensures, c .before .truncate .ensures, rotl-code _ _ h)
 
 pub rotl-word-spec : {M : Type 1} → statement M
 rotl-word-spec =

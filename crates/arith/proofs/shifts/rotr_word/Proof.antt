@@ -8,7 +8,7 @@ use Rattle.arith.proofs.shifts.rotr_word.Tie as tie
 
 returns : tie.Need-returns
 unfolding rotrOf
-returns c = rw (c .moved-right .ensures, rotr-code _ _ (c .before .pre))
+returns c h = rw (c .moved-right .ensures, rotr-code _ _ h)
 
 pub rotr-word-spec : {M : Type 1} → statement M
 rotr-word-spec = tie.close (tie.spec (λ c. search needs) (λ c. search needs) (λ c κs. search needs) returns)

@@ -7,7 +7,7 @@ use Rattle.arith.proofs.sums.sub_word.Tie as tie
 
 returns : tie.Need-returns
 unfolding subOf
-returns c = rw (c .word-of .ensures, c .before .flag .ensures, c .before .before .subtract .ensures)
+returns c h = rw (c .word-of .ensures, c .before .flag .ensures, c .before .before .subtract .ensures h)
 
 pub sub-word-spec : {M : Type 1} → statement M
 sub-word-spec =

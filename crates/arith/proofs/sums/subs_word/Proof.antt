@@ -8,9 +8,7 @@ use Rattle.arith.proofs.sums.subs_word.Tie as tie
 
 returns : tie.Need-returns
 unfolding subsOf
-returns c =
-    let p = c .before .before .before .before .pre in
-    simp (c .word-of .ensures, c .before .flag .ensures, c .before .before .before .subtract .ensures, c .before .before .top-bit .ensures, raise-code _ _ (p .width .least) (p .left), raise-code _ _ (p .width .least) (p .right), sign-code _ _ _ p)
+returns c p = simp (c .word-of .ensures, c .before .flag .ensures, c .before .before .before .subtract .ensures p, c .before .before .top-bit .ensures, raise-code _ _ (p .width .least) (p .left), raise-code _ _ (p .width .least) (p .right), sign-code _ _ _ p)
 
 pub subs-word-spec : {M : Type 1} → statement M
 subs-word-spec =

@@ -8,7 +8,7 @@ use Rattle.arith.proofs.sums.subtract.Statement.{statement}
 use Rattle.arith.proofs.sums.subtract.Tie as tie
 
 returns : tie.Need-returns
-returns c = c .truncate .ensures ∙ subtract-code _ _ _ _ _ _ (c .before .before .before .pre .0) (c .before .before .before .pre .1) (omega arith) (c .before .before .wrapping-sub-u32 .ensures) (omega arith) (c .before .wrapping-sub-u322 .ensures)
+returns c h = c .truncate .ensures ∙ subtract-code _ _ _ _ _ _ h (c .before .before .before .pre .1) (omega arith) (c .before .before .wrapping-sub-u32 .ensures) (omega arith) (c .before .wrapping-sub-u322 .ensures)
 
 pub subtract-spec : {M : Type 1} → statement M
 subtract-spec =
