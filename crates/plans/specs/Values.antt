@@ -1,5 +1,6 @@
 -- What the plans promise, beside state's definitions. A sum that is too large for 64 bits wraps in the code; a core in its ranges has none.
-use Prim.Native.Nat.{ℕ, _+_, _%_, _^_}
+use Prim.Native.Nat.{ℕ, _+_, _*_, _/_, _%_, _^_}
+use mathlib.Core.Bool.{Bool}
 use lib.Dec.{eqb}
 use Rattle.laws.specs.Choice.{pick}
 use Rattle.words.specs.declared.Config.{Config}
@@ -40,3 +41,7 @@ computed c m bit26 o t =
 
 unfoldable pub compared : Config → Core → ℕ → Operation → Operands → Change
 compared c m bit26 o t = moved (flagged (onward m) bit26 (result c m o t .z) (result c m o t .n))
+
+-- whether bit 2 N + Z of k is set
+unfoldable pub takenAt : ℕ → ℕ → ℕ → Bool
+takenAt k n z = eqb (k / 2 ^ (2 * (n % 2) + z % 2) % 2) 1

@@ -28,7 +28,6 @@ pub use plans::ret_constant;
 pub use plans::skip;
 pub use plans::store_direct;
 pub use plans::store_register;
-pub use values::immediate_in;
 pub use values::special_register;
 pub use values::top_of;
 pub use values::value_at;

@@ -5,17 +5,16 @@ ghost use lib.Dec.{ltb, leb, eqb};
 ghost use lib.ListN.{getD, length};
 ghost use Rattle.laws.specs.Choice.{pick as choice};
 ghost use Rattle.laws.specs.Test.{imp};
+ghost use Rattle.arith.specs.Width.{bits};
 ghost use Rattle.arith.specs.Width.{one as flag};
-ghost use Rattle.words.specs.declared.Form.the-variants.{Signed};
-ghost use Rattle.words.specs.Codes.{conditionAt};
+ghost use Rattle.arith.specs.Alu.{Within};
 ghost use Rattle.state.specs.State.{top};
 ghost use Rattle.state.specs.Cores.{posting, flagged, indexed, multiplied, deep, masked, banked, taking, logging, off, write, change, stopped, moved, toRegister, toMemory, toStack, toLog};
-ghost use Rattle.state.specs.Operands.{dataAddress, constant, conditionMet};
+ghost use Rattle.state.specs.Operands.{dataAddress};
 ghost use Rattle.state.specs.Plans.{product, withTopBit};
-ghost use Rattle.plans.specs.Values.{up, went, onward, further, computed, compared};
+ghost use Rattle.plans.specs.Values.{up, went, onward, further, computed, compared, takenAt};
 use crate::Operands;
 use crate::context;
-use crate::values::condition_met;
 use crate::values::cut;
 use crate::values::one;
 use crate::values::value_at;
@@ -25,7 +24,6 @@ use state::Change;
 use state::Core;
 use state::Write;
 use words::Config;
-use words::Form;
 use words::Operation;
 
 // "Data addresses are register values mod 65,536."
@@ -48,19 +46,19 @@ pub fn skip(m: Core) -> Change
     next(m).moved()
 }
 
-// The result to a register, and the flags.
+// The result to a register, and the flags: promised of words at the width.
 pub fn compute(c: Config, m: Core, bit26: u32, o: Operation, t: Operands) -> Change
-    ensures { λ r. ⌜ r ≡ computed c m bit26 o t ⌝ }
+    ensures { λ r. ⌜ (Within (bits (c .regwidth)) (t .d) (t .x) (m .n) → r ≡ computed c m bit26 o t) ⌝ }
 {
-    let w = arith::alu(c.regwidth, o, t.d, t.x, m.n);
+    let w = arith::alu_within(c.regwidth, o, t.d, t.x, m.n);
     next(m).flagged(bit26, w.z, w.n).to_register(t.at, w.value)
 }
 
-// The flags alone.
+// The flags alone, promised of the same.
 pub fn compare(c: Config, m: Core, bit26: u32, o: Operation, t: Operands) -> Change
-    ensures { λ r. ⌜ r ≡ compared c m bit26 o t ⌝ }
+    ensures { λ r. ⌜ (Within (bits (c .regwidth)) (t .d) (t .x) (m .n) → r ≡ compared c m bit26 o t) ⌝ }
 {
-    let w = arith::alu(c.regwidth, o, t.d, t.x, m.n);
+    let w = arith::alu_within(c.regwidth, o, t.d, t.x, m.n);
     next(m).flagged(bit26, w.z, w.n).moved()
 }
 
@@ -219,11 +217,12 @@ pub fn jump(m: Core, p: usize) -> Change
     m.go(p).moved()
 }
 
-// A jump to p where the condition k is met.
-pub fn branch(m: Core, k: u32, p: usize) -> Change
-    ensures { λ r. ⌜ r ≡ moved (choice (conditionMet (conditionAt k) (m .n) (m .z)) (went m p) (onward m)) ⌝ }
+// A jump to p where bit 2 N + Z of `taken` is set: the four answers of a condition.
+pub fn branch(m: Core, taken: u32, p: usize) -> Change
+    ensures { λ r. ⌜ r ≡ moved (choice (takenAt taken (m .n) (m .z)) (went m p) (onward m)) ⌝ }
 {
-    if condition_met(k, m.n, m.z) {
+    let i = 2 * (m.n % 2) + m.z % 2;
+    if (taken >> (i as u32)) % 2 == 1 {
         return m.go(p).moved();
     }
     next(m).moved()
@@ -260,15 +259,14 @@ pub fn ret(m: Core, stack: &[u32]) -> Change
     returned(m, d - 1, stack).to_stack(d - 1, 0)
 }
 
-// RLD: a return that loads a constant.
-pub fn ret_constant(c: Config, m: Core, i: usize, v: u32, stack: &[u32]) -> Change
-    ensures { λ r. ⌜ r ≡ choice (ltb 0 (m .depth)) (change (deep (went m (getD (now (stack .entry)) (m .depth - 1) 0)) (m .depth - 1)) (write i (constant c Signed v)) off (write (m .depth - 1) 0) off off) (stopped m 11) ⌝ }
+// RLD: a return that loads a constant, ready at the width.
+pub fn ret_constant(m: Core, i: usize, x: u32, stack: &[u32]) -> Change
+    ensures { λ r. ⌜ r ≡ choice (ltb 0 (m .depth)) (change (deep (went m (getD (now (stack .entry)) (m .depth - 1) 0)) (m .depth - 1)) (write i x) off (write (m .depth - 1) 0) off off) (stopped m 11) ⌝ }
 {
     let d = m.depth;
     if d == 0 {
         return m.stopped(11);
     }
-    let x = arith::immediate(c.regwidth, Form::Signed, v);
     let off = Write::off();
     returned(m, d - 1, stack).change(Write::to(i, x), off, Write::to(d - 1, 0), off, off)
 }

@@ -1,17 +1,12 @@
-// What an instruction reads: cells, operands, special registers, conditions. Readers of memories are total: past the end a cell is 0.
+// What an instruction reads: cells, operands, special registers. Readers of memories are total: past the end a cell is 0.
 ghost use mathlib.Core.Path.{_≡_};
-ghost use Prim.Native.Nat.{_+_, _*_, _/_, _%_, _^_, _≤_, _<_};
+ghost use Prim.Native.Nat.{_+_, _*_, _%_, _^_, _≤_, _<_};
 ghost use lib.ListN.{getD};
 ghost use Rattle.arith.specs.Width.{bits, half};
 ghost use Rattle.arith.specs.Width.{one as flag};
-ghost use Rattle.state.specs.State.{top};
-ghost use Rattle.words.specs.Codes.{formAt, conditionAt};
-ghost use Rattle.state.specs.Operands.{constant, conditionMet, log2, specialRegister};
+ghost use Rattle.state.specs.Operands.{log2, specialRegister};
 ghost use Rattle.state.specs.Plans.{withTopBit};
 use words::Config;
-use words::Form;
-use words::entries;
-use words::layout;
 
 pub fn value_at(xs: &[u32], i: usize) -> u32
     ensures { λ r. ⌜ r ≡ getD (now (xs .entry)) i 0 ⌝ }
@@ -42,37 +37,6 @@ pub fn cut(width: u32, x: u64) -> u32
     ensures { λ r. ⌜ r ≡ x % 2 ^ bits width ⌝ }
 {
     (x % top_of(width)) as u32
-}
-
-// The immediate in bits 15-0 of w, by the form in entry e.
-pub fn immediate_in(c: Config, e: u32, w: u32) -> u32
-    ensures { λ r. ⌜ r ≡ constant c (formAt (e / 4096 % 4)) (w % 65536) ⌝ }
-{
-    let v = w % layout::LOWER_VALUES;
-    let form = e / entries::FORM % entries::FORMS;
-    if form == 0 {
-        return arith::immediate(c.regwidth, Form::Signed, v);
-    }
-    if form == 1 {
-        return arith::immediate(c.regwidth, Form::Unsigned, v);
-    }
-    arith::immediate(c.regwidth, Form::Shifted, v)
-}
-
-// Whether a jump with condition k is taken.
-pub fn condition_met(k: u32, n: u64, z: u64) -> bool
-    ensures { λ r. ⌜ r ≡ conditionMet (conditionAt k) n z ⌝ }
-{
-    match k {
-        0 => false,
-        1 => z == 1,
-        2 => !(z == 1),
-        3 => !(z == 1) & !(n == 1),
-        4 => n == 1,
-        5 => !(n == 1),
-        6 => (z == 1) | (n == 1),
-        _ => false,
-    }
 }
 
 // log2 of a power of two up to 32,768; of 0 it is 0.

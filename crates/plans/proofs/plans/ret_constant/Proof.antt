@@ -13,9 +13,9 @@ returns c = simp (c .before .if1 .taken, c .stopped .ensures)
 
 returns-2 : tie.Need-returns-2
 unfolding pick
-returns-2 c = let h : 0 < c .before .before .before .before .before .before .before .before .args .m .depth = omega arith in simp (lt-ltb _ _ h, c .change .ensures, c .before .before .before .returned .ensures, c .before .before .to .ensures, c .before .to2 .ensures, c .before .before .before .before .off .ensures, c .before .before .before .before .before .immediate .ensures)
+returns-2 c = let h : 0 < c .before .before .before .before .before .before .before .args .m .depth = omega arith in simp (lt-ltb _ _ h, c .change .ensures, c .before .before .before .returned .ensures, c .before .before .to .ensures, c .before .to2 .ensures, c .before .before .before .before .off .ensures)
 
 pub ret-constant-spec : {M : Type 1} → statement M
 ret-constant-spec =
     tie.close
-    (tie.spec (λ c κs. search needs) returns (λ c κs. search needs) (λ c κs. search needs) (λ c. search needs) (λ c κs. search needs) (λ c κs. search needs) (λ c. search needs) (λ c κs. search needs) (λ c κs. search needs) returns-2)
+    (tie.spec (λ c κs. search needs) returns (λ c κs. search needs) (λ c. search needs) (λ c κs. search needs) (λ c κs. search needs) (λ c. search needs) (λ c κs. search needs) (λ c κs. search needs) returns-2)
