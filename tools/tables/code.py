@@ -150,13 +150,13 @@ pub fn packed_of(n: u32) -> u64
 '''
 
 
-def proof_of_match(function, uses, unfolding, law, count, rest):
-    """The proof of a function of single.rt that is one match: each arm is computed."""
+def proof_of_match(function, uses, unfolding, law, count, rest, crate='words', module='single'):
+    """The proof of a function that is one match: each arm is computed."""
     spec = function.replace('_', '-') + '-spec'
-    return f'''-- `words::single::{function}` meets its contract. Assumes nothing. {WRITTEN}
+    return f'''-- `{crate}::{module}::{function}` meets its contract. Assumes nothing. {WRITTEN}
 {lines('use ' + u for u in uses)}
-use Rattle.words.proofs.single.{function}.Statement.{{statement}}
-use Rattle.words.proofs.single.{function}.Tie as tie
+use Rattle.{crate}.proofs.{module}.{function}.Statement.{{statement}}
+use Rattle.{crate}.proofs.{module}.{function}.Tie as tie
 
 pub {spec} : {{M : Type 1}} → statement M
 unfolding {unfolding}
@@ -188,6 +188,33 @@ def proofs():
         'rowTable rows packed partCode optionCode marksOf weight', 'packed-moved', len(ROWS), f'packed-past _ {past}')
 
 
+def templates(): return f'''// The template of each row (specs/Templates.antt). {WRITTEN}
+ghost use mathlib.Core.Path.{{_≡_}};
+ghost use Rattle.cells.specs.Templates.{{templateOf}};
+
+// Past the rows 0.
+pub fn template(n: u32) -> u32
+    ensures {{ λ r. ⌜ r ≡ templateOf n ⌝ }}
+{{
+    match n {{
+{arms([lookup.template(r) for r in ROWS], '0x%08x')}
+        _ => 0,
+    }}
+}}
+'''
+
+
+def proof_of_templates():
+    words = 'Rattle.words.specs.'
+    return proof_of_match(
+        'template', [REFL, 'Rattle.laws.specs.Choice.{pick}', TABLE, words + 'Kinds.{marksOf}', words + 'Codes.{formAt, conditionAt}', words + 'Facts.{factsFor}',
+                     words + 'Actions.{actions, entries}', words + 'Lookup.{entryAt, actionAt}', 'Rattle.arith.specs.Width.{one}',
+                     'Rattle.state.specs.Operands.{conditionMet}', 'Rattle.cells.specs.Cell.{takenOf}',
+                     'Rattle.cells.specs.Templates.{valueSource, templateOf}', 'Rattle.cells.proofs.templates.Laws.{template-moved, template-past}'],
+        'templateOf entryAt entries actionAt actions formAt conditionAt factsFor marksOf takenOf conditionMet valueSource one pick', 'template-moved', len(ROWS),
+        f'template-past _ (excluded _ {len(ROWS)} (c .match .rest))', 'cells', 'templates')
+
+
 def header(): return f'''/* The numbers of the rows, as in crates/words/src/numbers.rt. {WRITTEN} */
 #ifndef YAM_ROWS_H
 #define YAM_ROWS_H
@@ -198,9 +225,11 @@ def header(): return f'''/* The numbers of the rows, as in crates/words/src/numb
 '''
 
 
-def write(words, include):
+def write(words, cells, include):
     for file, text in (('numbers', numbers()), ('codes', codes()), ('actions', actions()), ('classes', classes()), ('keyed', keyed()), ('columns', columns()),
                        ('single', single())):
         (words / 'src' / f'{file}.rt').write_text(text)
     for function, text in proofs(): (words / 'proofs' / 'single' / function / 'Proof.antt').write_text(text)
+    (cells / 'src' / 'templates.rt').write_text(templates())
+    (cells / 'proofs' / 'templates' / 'template' / 'Proof.antt').write_text(proof_of_templates())
     (include / 'yam_rows.h').write_text(header())

@@ -61,6 +61,41 @@ def entry(r):
     return CHECKS.index(check(r)) | condition << 8 | form << 12 | ACTIONS.index(action(r)) << 26
 
 
+def template(r):
+    """What a cell is filled from (crates/cells/specs/Templates.antt)."""
+    if not supported(r): return 0
+    a, kind, marked = ACTIONS.index(action(r)), r['kind'], marks(r)
+    digits = CHECKS.index(check(r)) << 10 | value_source(r) << 16
+    if kind[0] in APART: return digits
+    digits |= a | sum(1 << 6 + n for n, column in enumerate(('flag', 'destination', 'source')) if column in uses(action(r)))
+    digits |= ('loads' in marked) << 9 | taken(kind) << 20 | 2 + ('reads-port' in marked) << 24
+    return digits
+
+
+# The kinds that the machine's loop does not carry out.
+APART = {'enter-special': 8, 'leave-special': 9}
+
+
+def value_source(r):
+    """Where the value of a cell comes from, by number (crates/cells/specs/Templates.antt, valueSource)."""
+    kind, found = r['kind'], uses(action(r))
+    if kind[0] in APART: return APART[kind[0]]
+    if 'unit' in found: return 7
+    if 'number' in found: return 6
+    if 'target' in found: return 5
+    if 'value' not in found: return 0
+    if kind[0] == 'ret-constant': return 1
+    form = next((FORMS.index(x) for x in ' '.join(kind[1:]).replace('(', ' ').replace(')', ' ').split() if x in FORMS), None)
+    return 4 if form is None else 1 + form
+
+
+# When a conditional jump is taken, a bit for each value of 2 N + Z.
+TAKEN = {'Z': 0b1010, 'NZ': 0b0101, 'GT': 0b0001, 'LT': 0b1100, 'GE': 0b0011, 'LE': 0b1110}
+
+
+def taken(kind): return TAKEN.get(kind[1], 0) if kind[0].startswith('branch') else 0
+
+
 # The field that chooses among the rows of a class: where it stands, the mask that cuts it out, where its entries begin (specs/Finding.antt).
 def field(shift, mask, start): return 0x80 | mask << 8 | shift << 16 | start << 21
 

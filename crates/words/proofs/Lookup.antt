@@ -8,11 +8,12 @@ use mathlib.Core.Logic.{_⊎_, inl, inr}
 use native.Mathlib.Nat.{not-suc-le-zero}
 use native.Mathlib.Omega.{arith}
 use borrow.Author.Tests.{ltb-true, ltb-false}
-use lib.Dec.{T, ltb, ltb→lt, eqb, eqb→eq}
+use lib.Dec.{T, leb, leb→le, ltb, ltb→lt, eqb, eqb→eq}
 use lib.Bits.{bitAnd, and-mask}
 use lib.ListN.{List·getD-eq-default}
 use Rattle.laws.specs.Choice.{pick, either}
 use Rattle.laws.specs.Test.{_and_, test, Holds, holds, Member, imp, imp-use, eq→eqb, and-left, and-right}
+use Rattle.laws.specs.Lists.{all-at}
 use Rattle.laws.specs.First.{first-failing, Obeyed, none-fails, numbered, obeyed}
 use Rattle.words.specs.declared.Config.{Config}
 use Rattle.words.specs.declared.Instruction.{Instruction}
@@ -226,12 +227,8 @@ quick c w hc hw q = rw (none-fails (refusals567 c (rowAt (partsOf c w .row)) (pa
 -- The parts that an action reads
 
 -- what is below REG_SIZE is its own remainder
-size-mod : (size x d : ℕ) → Member size registerSizes → x % 128 ≡ d % 128 → d < size → d ≡ x % size
-size-mod size x d (inl e) h l = rw e (omega (arith, rw e at l))
-size-mod size x d (inr (inl e)) h l = rw e (omega (arith, rw e at l))
-size-mod size x d (inr (inr (inl e))) h l = rw e (omega (arith, rw e at l))
-size-mod size x d (inr (inr (inr (inl e)))) h l = rw e (omega (arith, rw e at l))
-size-mod size x d (inr (inr (inr (inr e)))) h l = rw e (omega (arith, rw e at l))
+small-mod : (size x d : ℕ) → Member size registerSizes → x % 128 ≡ d % 128 → d < size → d ≡ x % 128
+small-mod size x d m h l = let b = leb→le size 128 (all-at (λ v. leb v 128) registerSizes size tt m) in omega (arith, h, l, b)
 
 -- bits of a word over a code that is clear of them
 low-source : (w b : ℕ) → b ≤ w % 0x800000 → b % 256 ≡ 0 → w % 128 ≡ (w % 0x800000 - b) % 65536 % 128
@@ -271,12 +268,12 @@ parts-agree c w hc hw row option fit =
           let q = u .1 .0 t in
           let z = upper-at y (f - code r) (q .1 .0) in
           let l = below-register c (r .destination) _ (is-it _ _ (q .0)) (fit .1 .1 .0) in
-          size-mod (c .regsize) (w / 65536) _ size (omega arith) (omega arith);
+          (omega arith, l);
       source = λ t.
           let q = u .1 .1 .0 t in
           let z = lower-at y (f - code r) (q .1 .0) in
           let l = below-register c (r .source) _ (is-it _ _ (q .0)) (fit .1 .1 .1 .0) in
-          size-mod (c .regsize) w _ size (rw z (low-source w (code r) (facts .code-most) (q .1 .1))) (omega arith);
+          (small-mod (c .regsize) w _ size (rw z (low-source w (code r) (facts .code-most) (q .1 .1))) l, l);
       number = λ t.
           let q = u .1 .1 .1 .0 t in
           let m = most-byte (r .number) (is-it _ _ (q .0)) in

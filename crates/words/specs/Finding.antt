@@ -1,15 +1,14 @@
 -- How code finds the entry of a word by its bits 31-23 at once, and a check's two limits as one mask. Nothing here is to be believed: proofs/Finding.antt
 -- ties it to Lookup.
 use Prim.Native.Nat.{ℕ, _+_, _-_, _*_}
-use mathlib.Core.Bool.{_||_}
 use mathlib.Core.List.{List, [], _∷_}
-use lib.Dec.{ltb, eqb}
+use lib.Dec.{ltb}
 use lib.ListN.{getD}
 use Rattle.laws.specs.Choice.{pick}
 use Rattle.laws.specs.Table.{values}
 use Rattle.words.specs.declared.Config.{Config}
 use Rattle.words.specs.Classes.{index, indexRows, byteRows, portRows, maskRows, miscRows, lookup, classOf}
-use Rattle.words.specs.Lookup.{entryAt, checkAt, upperLimit, lowerLimit, waitOf}
+use Rattle.words.specs.Lookup.{entryAt, checkAt, upperLimit, lowerLimit, maskOf, waitOf}
 
 -- Entries
 
@@ -45,11 +44,6 @@ unfoldable pub fieldTable : List ℕ
 fieldTable = values fieldAt 0 644
 
 -- Checks
-
--- A word that has none of these bits is below `upper` in bits 22-16 and below `lower` in bits 15-0; where a limit is 0 these are all bits, and only word 0,
--- whose limits are not 0, has none.
-unfoldable pub maskOf : ℕ → ℕ → ℕ
-maskOf upper lower = pick (eqb upper 0 || eqb lower 0) 0xffffffff (65536 * (128 - upper) + (65536 - lower))
 
 unfoldable pub masks : Config → List ℕ
 masks c = values (λ t. maskOf (upperLimit c (checkAt t)) (lowerLimit c (checkAt t))) 0 64

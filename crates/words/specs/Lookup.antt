@@ -1,7 +1,7 @@
 -- Looking a word up by lent tables: the entry of its row, the limits of the entry's check, and the parts that an action reads. This is how code goes about
 -- a step, not what a reader must believe: proofs/Lookup.antt ties each of these to Rows, Words and Facts.
-use Prim.Native.Nat.{ℕ, _+_, _/_, _%_, _<_}
-use mathlib.Core.Bool.{Bool, _&&_, not}
+use Prim.Native.Nat.{ℕ, _+_, _-_, _*_, _/_, _%_, _<_}
+use mathlib.Core.Bool.{Bool, _&&_, _||_, not}
 use mathlib.Core.Path.{_≡_}
 use mathlib.Core.List.{List}
 use lib.Dec.{T, eqb, ltb}
@@ -60,6 +60,11 @@ upperLimit c k =
 unfoldable pub lowerLimit : Config → Check → ℕ
 lowerLimit c k = k .code % 65536 + limitIn c 65536 (k .lower)
 
+-- A word that has none of these bits is below `upper` in bits 22-16 and below `lower` in bits 15-0; where a limit is 0 these are all bits, and only word 0,
+-- whose limits are not 0, has none.
+unfoldable pub maskOf : ℕ → ℕ → ℕ
+maskOf upper lower = pick (eqb upper 0 || eqb lower 0) 0xffffffff (65536 * (128 - upper) + (65536 - lower))
+
 -- what a step of check k waits beyond two cycles
 unfoldable pub waitOf : Config → Check → ℕ
 waitOf c k = pick (eqb (k .wait) input) 1 (pick (eqb (k .wait) load && not (eqb (c .dmpipe) 0)) 1 0)
@@ -93,11 +98,11 @@ pub record Limits (c : Config) (entry-list upper-list lower-list : List ℕ) : T
 abbrev pub reads : ℕ → ℕ → Type 0
 reads m a = T (eqb (actionAt a .uses / m % 2) 1)
 
--- instruction i has the parts of word w that action a reads, under REG_SIZE `size`
+-- instruction i has the parts of word w that action a reads, its registers below `size`
 pub record Agrees (size a w : ℕ) (i : Instruction) : Type 0 where
   pub flag : reads flag′ a → i .flag ≡ w / 0x4000000 % 2
-  pub destination : reads destination′ a → i .destination ≡ w / 65536 % size
-  pub source : reads source′ a → i .source ≡ w % size
+  pub destination : reads destination′ a → (i .destination ≡ w / 65536 % 128) × (i .destination < size)
+  pub source : reads source′ a → (i .source ≡ w % 128) × (i .source < size)
   pub number : reads number′ a → i .number ≡ w / 0x800000 % 4
   pub value : reads value′ a → i .value ≡ w % 65536
   pub target : reads target′ a → i .value ≡ w % 0x800000

@@ -1,8 +1,9 @@
 // Reading a word: refusals 1, 5, 6, 7, or the instruction.
 ghost use mathlib.Core.Path.{_≡_};
-ghost use Prim.Native.Nat.{_-_, _%_, _<_};
+ghost use Prim.Native.Nat.{_-_, _/_, _%_, _<_};
 ghost use Rattle.words.specs.Answers.{readingOf, judged};
 ghost use Rattle.words.specs.Claims.{Reads};
+ghost use Rattle.words.specs.Classes.{classOf, rowOf};
 ghost use Rattle.words.specs.Lookup.{belowLent};
 ghost use Rattle.words.specs.Kinds.{unsupported};
 ghost use Rattle.words.specs.Codes.{partAt};
@@ -146,6 +147,13 @@ pub fn parts_lent(bases: &[u32], packs: &[u64], c: Config, n: u32, w: u32) -> In
         c,
         fields_in(c, n, base, p, w / layout::KEY, w % layout::KEY),
     )
+}
+
+// The row of a single word.
+pub fn row_of_word(w: u32) -> u32
+    ensures { λ r. ⌜ r ≡ rowOf (classOf (w / 0x800000)) (w % 0x800000) ⌝ }
+{
+    row_of(class_of(w / layout::KEY), w % layout::KEY)
 }
 
 // Reading without a look at refusal 1, for callers that have validated the configuration.

@@ -1,12 +1,12 @@
 // Looking a word up by lent tables: the entry of its row, and the limits and costs of the entry's check (specs/Lookup.antt). A caller that reads many words
 // takes them once.
-ghost use Prim.Native.Nat.{_-_};
 ghost use mathlib.Core.Path.{_≡_};
 ghost use Rattle.laws.specs.Choice.{pick as choice};
-ghost use Rattle.words.specs.Finding.{maskOf, masks, costs};
+ghost use Rattle.words.specs.Finding.{masks, costs};
 ghost use Rattle.words.specs.Lookup.{entryTable, uppers, lowers};
 use crate::Config;
 use crate::columns::ENTRIES;
+use crate::masks::mask_of;
 
 // The digits of an entry: its check, its condition, the form of its immediate, its action.
 pub const CHECKS: u32 = 64;
@@ -28,7 +28,7 @@ pub fn entry_table() -> [u32; 256]
     ENTRIES
 }
 
-fn pick(b: bool, x: u64, y: u64) -> u64
+pub fn pick(b: bool, x: u64, y: u64) -> u64
     ensures { λ r. ⌜ r ≡ choice b x y ⌝ }
 {
     if b { x } else { y }
@@ -267,27 +267,6 @@ pub fn cost_table(c: Config) -> [u64; 64]
         2,
         2,
     ]
-}
-
-// all - used, and 0 where that is below 0
-fn room(all: u32, used: u64) -> u32
-    ensures { λ r. ⌜ r ≡ all - used ⌝ }
-{
-    if used < all as u64 {
-        all - used as u32
-    } else {
-        0
-    }
-}
-
-// The mask of a check's two limits.
-fn mask_of(upper: u64, lower: u64) -> u32
-    ensures { λ r. ⌜ r ≡ maskOf upper lower ⌝ }
-{
-    if (upper == 0) | (lower == 0) {
-        return 0xffffffff;
-    }
-    65536 * room(128, upper) + room(65536, lower)
 }
 
 // Both limits as one mask, by the check: a word that is clear of it is within them.

@@ -1,9 +1,9 @@
--- `words::entries::mask_of` meets its contract. Assumes nothing.
+-- `words::masks::mask_of` meets its contract. Assumes nothing.
 use Rattle.laws.specs.Choice.{pick}
-use Rattle.words.specs.Finding.{maskOf}
+use Rattle.words.specs.Lookup.{maskOf}
 use borrow.Author.Needs.{needs}
-use Rattle.words.proofs.entries.mask_of.Statement.{statement}
-use Rattle.words.proofs.entries.mask_of.Tie as tie
+use Rattle.words.proofs.masks.mask_of.Statement.{statement}
+use Rattle.words.proofs.masks.mask_of.Tie as tie
 
 returns : tie.Need-returns
 unfolding maskOf pick
