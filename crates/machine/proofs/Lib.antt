@@ -1,2 +1,3 @@
 pub mod Lookup
+pub mod Cached
 pub mod Claims

@@ -1,9 +1,10 @@
 -- What the public calls promise: one equation each, and what is proved of the definitions beside it.
 use Prim.Native.Nat.{ℕ, _*_, _≤_}
 use mathlib.Core.Path.{_≡_}
+use lib.ListN.{length}
 use Rattle.state.specs.State.{Env, State}
-use Rattle.state.specs.Step.{Outcome, stepOf}
-use Rattle.state.specs.Run.{runCall}
+use Rattle.state.specs.Step.{Outcome, refused, stepOf}
+use Rattle.state.specs.Run.{ended, runCall}
 use Rattle.state.specs.Claims.{RefusedStays, CellsStay, RunSplits}
 use Rattle.machine.specs.Stepping.{End, endOf}
 
@@ -13,9 +14,19 @@ pub record Steps (e : Env) (s : State) (o : Outcome) : Type 0 where
   pub refused-stays : RefusedStays
   pub cells-stay : CellsStay
 
+-- `step_lent` does the same where the lent return stack is 63 cells long; else it answers 2 and leaves all as it was
+pub record StepsLent (e : Env) (s : State) (o : Outcome) : Type 0 where
+  pub fits : length (s .stack) ≡ 63 → Steps e s o
+  pub misfit : (length (s .stack) ≡ 63 → ⊥) → o ≡ refused 2 s
+
 -- `run` from s with this budget leaves and answers x
 pub record Runs (budget : ℕ) (e : Env) (s : State) (x : End) : Type 0 where
   pub answer : x ≡ endOf (runCall budget e s)
   pub least : 2 * x .steps ≤ x .cycles
   pub most : x .cycles ≤ 3 * x .steps
   pub splits : RunSplits
+
+-- and so does `run_lent`
+pub record RunsLent (budget : ℕ) (e : Env) (s : State) (x : End) : Type 0 where
+  pub fits : length (s .stack) ≡ 63 → Runs budget e s x
+  pub misfit : (length (s .stack) ≡ 63 → ⊥) → x ≡ endOf (ended 2 s)

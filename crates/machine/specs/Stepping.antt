@@ -5,22 +5,23 @@ use Rattle.state.specs.declared.Machine.{Machine}
 use Rattle.state.specs.State.{State, state}
 use Rattle.state.specs.Step.{Outcome}
 use Rattle.state.specs.Run.{Run}
-use Rattle.machine.specs.declared.Turn.{Turn}
 use Rattle.machine.specs.declared.Turns.{Turns}
 use Rattle.machine.specs.declared.Stepped.{Stepped}
+use Rattle.machine.specs.declared.SteppedCore.{SteppedCore}
 use Rattle.machine.specs.declared.Ran.{Ran}
+use Rattle.machine.specs.declared.RanCore.{RanCore}
 
 abbrev pub machineState : Machine → List ℕ → List ℕ → List ℕ → List ℕ → State
 machineState m registers memory addresses values = state (m .core) (m .stack) registers memory addresses values
 
 -- a step's answer and the buffers it left
-abbrev pub turned : Turn → List ℕ → List ℕ → List ℕ → List ℕ → List ℕ → Outcome
-turned t stack registers memory addresses values =
-    record { number = t .stop; cycles = t .cycles; state = state (t .core) stack registers memory addresses values }
-
 abbrev pub stepped : Stepped → List ℕ → List ℕ → List ℕ → List ℕ → Outcome
 stepped r registers memory addresses values =
     record { number = r .number; cycles = r .cycles; state = machineState (r .machine) registers memory addresses values }
+
+abbrev pub steppedCore : SteppedCore → List ℕ → List ℕ → List ℕ → List ℕ → List ℕ → Outcome
+steppedCore r stack registers memory addresses values =
+    record { number = r .number; cycles = r .cycles; state = state (r .core) stack registers memory addresses values }
 
 -- how a run ended: what it answers and the state it left
 pub record End : Type 0 where
@@ -48,4 +49,13 @@ ranEnd r registers memory addresses values =
       steps = r .steps;
       cycles = r .cycles;
       last = machineState (r .machine) registers memory addresses values;
+    }
+
+abbrev pub ranCore : RanCore → List ℕ → List ℕ → List ℕ → List ℕ → List ℕ → End
+ranCore r stack registers memory addresses values =
+    record {
+      number = r .number;
+      steps = r .steps;
+      cycles = r .cycles;
+      last = state (r .core) stack registers memory addresses values;
     }

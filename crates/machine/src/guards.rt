@@ -1,16 +1,22 @@
 // The refusals before a step: 1, 2 and 3.
 ghost use mathlib.Core.Path.{_≡_};
-ghost use Prim.Native.Nat.{_+_, _<_};
+ghost use Prim.Native.Nat.{_+_, _^_, _<_};
 ghost use mathlib.Core.List.{[]};
 ghost use lib.Dec.{leb};
-ghost use Rattle.laws.specs.Test.{test};
+ghost use lib.ListN.{drop};
+ghost use Rattle.laws.specs.Test.{test, each, _and_};
 ghost use Rattle.laws.specs.First.{first-failing};
+ghost use Rattle.arith.specs.Width.{bits};
 ghost use Rattle.state.specs.State.{env, state};
 ghost use Rattle.state.specs.Ranges.{lengths, places, marks, positions, cells, inRanges, guards};
-use crate::memories::below_from;
+use crate::memories::joined;
+use crate::memories::within;
 use state::Core;
 use state::Machine;
 use words::Config;
+
+// Every 32-bit cell is below it.
+const WORD_TOP: u64 = 4294967296;
 
 fn lengths_fit(
     c: Config,
@@ -68,15 +74,36 @@ fn positions_fit(c: Config, m: Core, inputs: usize, room: usize) -> bool
             & ((!(m.posted == 0) | (m.port == 0)) & ((m.taken <= inputs) & (m.logged <= room))))
 }
 
+// Every address at most `most`, and zeros from `depth` on.
+fn stack_fits(stack: &[u32], depth: usize, most: u32) -> bool
+    ensures { λ r. ⌜ r ≡ test (each (most + 1) (now (stack .entry)) and each 1 (drop depth (now (stack .entry)))) ⌝ }
+{
+    if stack.len() < depth {
+        return within(stack, most);
+    }
+    let back = within(&stack[..depth], most);
+    let above = joined(&stack[depth..]);
+    back & (above == 0)
+}
+
+// Every word below 2^W. At W = 32 all are, and none is looked at; below it no bit from W on may be set in any.
+fn words_fit(width: u32, registers: &[u32], memory: &[u32]) -> bool
+    ensures { λ r. ⌜ r ≡ test (each (2 ^ bits width) (now (registers .entry)) and each (2 ^ bits width) (now (memory .entry))) ⌝ }
+{
+    let top = plans::top_of(width);
+    if WORD_TOP <= top {
+        return true;
+    }
+    let all = joined(registers) | joined(memory);
+    (all as u64) < top
+}
+
 fn cells_fit(c: Config, m: Core, stack: &[u32], registers: &[u32], memory: &[u32]) -> bool
     ensures { λ r. ⌜ r ≡ test (cells c (state m (now (stack .entry)) (now (registers .entry)) (now (memory .entry)) [] [])) ⌝ }
 {
-    let top = plans::top_of(c.regwidth);
-    let back = below_from(stack, 0, (c.imsize as u64) + 1);
-    let clear = below_from(stack, m.depth, 1);
-    let whole = below_from(registers, 0, top);
-    let words = below_from(memory, 0, top);
-    back & (clear & (whole & words))
+    let back = stack_fits(stack, m.depth, c.imsize);
+    let words = words_fit(c.regwidth, registers, memory);
+    back & words
 }
 
 // Whether a record is in its ranges, and the cells of its memories fit the word width: where not, it is refused with 3.
@@ -94,8 +121,10 @@ pub fn in_ranges(
     let places = places_fit(c, m);
     let marks = marks_fit(c, m);
     let positions = positions_fit(c, m, inputs.len(), addresses.len());
-    let cells = cells_fit(c, m, stack, registers, memory);
-    places & (marks & (positions & cells))
+    if !(places & (marks & positions)) {
+        return false;
+    }
+    cells_fit(c, m, stack, registers, memory)
 }
 
 // The first of 1, 2 and 3 that refuses, or 0.

@@ -5,40 +5,35 @@ mod exec;
 mod guards;
 mod memories;
 mod stepping;
+mod single;
 mod stretching;
+mod turning;
 
 pub use guards::in_ranges;
+pub use guards::refusal;
+pub use memories::joined;
 use state::Change;
 use state::Core;
 use state::Machine;
 pub use stepping::run;
+pub use stepping::run_lent;
 pub use stepping::step;
+pub use stepping::step_lent;
 
-// What the word at PC does, where that is settled: its change or stop, and, where it is not stopped, its cycles.
+// What the word at PC does by its cell: its change or stop, and, where it is not stopped, its cycles.
 pub struct Decision {
-    pub settled: bool,
     pub cycles: u64,
     pub change: Change,
 }
 
-// What one step gives beside the memories, where that is settled.
+// What one step gives beside the memories; a stop from 256 on says that it is made apart.
 pub struct Turn {
-    pub settled: bool,
     pub stop: u32,
     pub cycles: u64,
     pub core: Core,
 }
 
-// How far steps came: `settled` where the budget is spent or a step was stopped, else before the next one; what they gave beside the memories.
-pub struct Stretch {
-    pub settled: bool,
-    pub stop: u32,
-    pub steps: u64,
-    pub cycles: u64,
-    pub core: Core,
-}
-
-// What the steps of a run give beside the memories.
+// What steps give beside the memories.
 pub struct Turns {
     pub stop: u32,
     pub steps: u64,
@@ -53,10 +48,25 @@ pub struct Stepped {
     pub machine: Machine,
 }
 
+// What a step on a lent return stack answers.
+pub struct SteppedCore {
+    pub number: u32,
+    pub cycles: u64,
+    pub core: Core,
+}
+
 // What a run answers: the number that ended it, 0 for a spent budget; how many steps were done and their cycles; and the machine.
 pub struct Ran {
     pub number: u32,
     pub steps: u64,
     pub cycles: u64,
     pub machine: Machine,
+}
+
+// What a run on a lent return stack answers.
+pub struct RanCore {
+    pub number: u32,
+    pub steps: u64,
+    pub cycles: u64,
+    pub core: Core,
 }

@@ -1,11 +1,12 @@
 // Writes to memories, and tests of whole memories.
 ghost use mathlib.Core.Path.{_≡_};
-ghost use Prim.Native.Nat.{_<_};
-ghost use lib.ListN.{drop, getD, length};
+ghost use Prim.Native.Nat.{_+_, _<_};
+ghost use lib.ListN.{getD, length};
 ghost use Rattle.laws.specs.Test.{below};
 ghost use Rattle.state.specs.State.{state};
 ghost use Rattle.state.specs.Step.{putOf, applied};
 ghost use Rattle.state.proofs.Step.{Inside, Landing};
+ghost use Rattle.machine.specs.Joins.{joinOf};
 use state::Change;
 use state::Write;
 
@@ -47,17 +48,29 @@ pub fn commit(
     put(values, x.logval);
 }
 
-// Whether every cell from `from` on is below the bound.
-pub fn below_from(xs: &[u32], from: usize, bound: u64) -> bool
-    ensures { λ r. ⌜ r ≡ below bound (drop from (now (xs .entry))) ⌝ }
+// Whether every cell is at most `most`.
+pub fn within(xs: &[u32], most: u32) -> bool
+    ensures { λ r. ⌜ r ≡ below (most + 1) (now (xs .entry)) ⌝ }
 {
-    let mut i = from;
+    let mut i: usize = 0;
     while i < xs.len() {
-        let x = xs[i] as u64;
-        if bound <= x {
+        if most < xs[i] {
             return false;
         }
         i += 1;
     }
     true
+}
+
+// The bits that are set in any cell: one pass without an early end, which is compiled to vector instructions.
+pub fn joined(xs: &[u32]) -> u32
+    ensures { λ r. ⌜ r ≡ joinOf (now (xs .entry)) ⌝ }
+{
+    let mut all: u32 = 0;
+    let mut i: usize = 0;
+    while i < xs.len() {
+        all = all | xs[i];
+        i += 1;
+    }
+    all
 }

@@ -1,114 +1,78 @@
 // The public calls: one step, and a run.
-ghost use mathlib.Core.Path.{_≡_};
-ghost use Prim.Native.Nat.{_≤_};
-ghost use lib.ListN.{length};
-ghost use Rattle.laws.specs.Choice.{pick as choice};
 ghost use Rattle.state.specs.State.{env, state};
-ghost use Rattle.state.specs.Run.{runOf};
-ghost use Rattle.state.proofs.Ranges.{Good};
-ghost use Rattle.machine.specs.Claims.{Steps, Runs};
-ghost use Rattle.machine.specs.Stepping.{machineState, stepped, endOf, turnsEnd, ranEnd};
+ghost use Rattle.machine.specs.Claims.{Steps, StepsLent, Runs, RunsLent};
+ghost use Rattle.machine.specs.Stepping.{machineState, stepped, steppedCore, ranEnd, ranCore};
 use crate::Ran;
+use crate::RanCore;
 use crate::Stepped;
-use crate::Turns;
-use crate::advance::exact_number;
+use crate::SteppedCore;
 use crate::guards::refusal;
-use crate::stretching::stretch;
+use crate::turning::once;
+use crate::turning::turns;
 use state::Core;
 use state::Machine;
 use words::Config;
 
-// How many steps of `left` a stretch is to make: one of a trusted word.
-fn share(trusted: bool, left: u64) -> u64
-    ensures { λ r. ⌜ r ≡ choice trusted 1 left ⌝ }
-{
-    if trusted { 1 } else { left }
-}
-
-// Steps of a state that 1, 2 and 3 let pass, to the budget or to a stop. The tables are built here, once, beside the loop that uses them.
-fn turns(
+// One step, a run of one, on a lent return stack: the refusals 1 to 15 in document 01's order, or the next core and the step's cycles. Answer, core, return stack, both
+// memories and both lists of the output log are `stepOf` of what was given; a refused step leaves them as they were. 2 where the stack is not 63 cells long.
+pub fn step_lent(
     c: Config,
-    first: Core,
     image: &[u32],
     inputs: &[u32],
+    core: Core,
     stack: &mut [u32],
     registers: &mut [u32],
     memory: &mut [u32],
     addresses: &mut [u32],
     values: &mut [u32],
-    budget: u64,
-) -> Turns
-    requires { ⌜ (length (now stack) ≡ 63) × Good (env c (now image) (now inputs)) (state first (now stack) (now registers) (now memory) (now addresses) (now values)) × (budget ≤ 1000000) ⌝ }
-    ensures { λ r. ⌜ turnsEnd r (now (stack .exit)) (now (registers .exit)) (now (memory .exit)) (now (addresses .exit)) (now (values .exit)) ≡ endOf (runOf budget (env c (now (image .entry)) (now (inputs .entry))) (state first (now (stack .entry)) (now (registers .entry)) (now (memory .entry)) (now (addresses .entry)) (now (values .entry)))) ⌝ }
+) -> SteppedCore
+    ensures { λ r. ⌜ StepsLent (env c (now (image .entry)) (now (inputs .entry))) (state core (now (stack .entry)) (now (registers .entry)) (now (memory .entry)) (now (addresses .entry)) (now (values .entry))) (steppedCore r (now (stack .exit)) (now (registers .exit)) (now (memory .exit)) (now (addresses .exit)) (now (values .exit))) ⌝ }
 {
-    let classes = words::class_table();
-    let bases = words::base_table();
-    let packs = words::row_table();
-    let keys = words::key_table();
-    let fields = words::field_table();
-    let masks = words::mask_table(c);
-    let costs = words::cost_table(c);
-    let limit = Machine::stack_limit(c.pcstack);
-    let mut core = first;
-    let mut done: u64 = 0;
-    let mut cycles: u64 = 0;
-    let mut trusted = false;
-    while done < budget {
-        let t = stretch(
-            c,
-            limit,
+    if stack.len() != Machine::STACK_CELLS {
+        return SteppedCore {
+            number: 2,
+            cycles: 0,
             core,
-            trusted,
-            &keys,
-            &fields,
-            &masks,
-            &costs,
-            image,
-            inputs,
-            stack,
-            registers,
-            memory,
-            addresses,
-            values,
-            share(trusted, budget - done),
-        );
-        let next = t.core;
-        core = next;
-        cycles = cycles + t.cycles;
-        done = done + t.steps;
-        if t.stop != 0 {
-            return Turns {
-                stop: t.stop,
-                steps: done,
-                cycles,
-                core,
-            };
-        }
-        if t.settled {
-            trusted = false;
-        } else {
-            let n = exact_number(c, core, &classes, &bases, &packs, image);
-            if n != 0 {
-                return Turns {
-                    stop: n,
-                    steps: done,
-                    cycles,
-                    core,
-                };
-            }
-            trusted = true;
-        }
+        };
     }
-    Turns {
-        stop: 0,
-        steps: done,
-        cycles,
+    let n = refusal(
+        c,
         core,
+        image,
+        inputs,
+        stack,
+        registers,
+        memory,
+        addresses,
+        values,
+    );
+    if n != 0 {
+        return SteppedCore {
+            number: n,
+            cycles: 0,
+            core,
+        };
+    }
+    let t = once(
+        c,
+        core,
+        image,
+        inputs,
+        stack,
+        registers,
+        memory,
+        addresses,
+        values,
+    );
+    let next = t.core;
+    SteppedCore {
+        number: t.stop,
+        cycles: t.cycles,
+        core: next,
     }
 }
 
-// One step, a run of one: the refusals 1 to 15 in document 01's order, or the next machine and the step's cycles. Answer, machine, both memories and both lists of
-// the output log are `stepOf` of what was given; a refused step leaves them as they were.
+// The same of a machine by value.
 pub fn step(
     c: Config,
     image: &[u32],
@@ -123,22 +87,75 @@ pub fn step(
 {
     let core = m.core;
     let mut stack = m.stack;
+    let r = step_lent(
+        c,
+        image,
+        inputs,
+        core,
+        &mut stack,
+        registers,
+        memory,
+        addresses,
+        values,
+    );
+    let next = r.core;
+    let machine = Machine { core: next, stack };
+    Stepped {
+        number: r.number,
+        cycles: r.cycles,
+        machine,
+    }
+}
+
+// A run on a lent return stack: its steps one by one, to the budget or to the first that is stopped; 16 where the budget is above 1,000,000, and 2 where the stack
+// is not 63 cells long. The memories are looked through once at most, before the first step.
+pub fn run_lent(
+    c: Config,
+    image: &[u32],
+    inputs: &[u32],
+    core: Core,
+    stack: &mut [u32],
+    registers: &mut [u32],
+    memory: &mut [u32],
+    addresses: &mut [u32],
+    values: &mut [u32],
+    budget: u64,
+) -> RanCore
+    ensures { λ r. ⌜ RunsLent budget (env c (now (image .entry)) (now (inputs .entry))) (state core (now (stack .entry)) (now (registers .entry)) (now (memory .entry)) (now (addresses .entry)) (now (values .entry))) (ranCore r (now (stack .exit)) (now (registers .exit)) (now (memory .exit)) (now (addresses .exit)) (now (values .exit))) ⌝ }
+{
+    if stack.len() != Machine::STACK_CELLS {
+        return RanCore {
+            number: 2,
+            steps: 0,
+            cycles: 0,
+            core,
+        };
+    }
     let n = refusal(
         c,
         core,
         image,
         inputs,
-        &stack,
+        stack,
         registers,
         memory,
         addresses,
         values,
     );
     if n != 0 {
-        return Stepped {
+        return RanCore {
             number: n,
+            steps: 0,
             cycles: 0,
-            machine: m,
+            core,
+        };
+    }
+    if Machine::BUDGET_MOST < budget {
+        return RanCore {
+            number: 16,
+            steps: 0,
+            cycles: 0,
+            core,
         };
     }
     let t = turns(
@@ -146,24 +163,23 @@ pub fn step(
         core,
         image,
         inputs,
-        &mut stack,
+        stack,
         registers,
         memory,
         addresses,
         values,
-        1,
+        budget,
     );
     let next = t.core;
-    let machine = Machine { core: next, stack };
-    Stepped {
+    RanCore {
         number: t.stop,
+        steps: t.steps,
         cycles: t.cycles,
-        machine,
+        core: next,
     }
 }
 
-// A run: its steps one by one, to the budget or to the first that is stopped; 16 where the budget is above 1,000,000. The memories are looked through
-// once, before the first step.
+// The same of a machine by value.
 pub fn run(
     c: Config,
     image: &[u32],
@@ -179,38 +195,11 @@ pub fn run(
 {
     let core = m.core;
     let mut stack = m.stack;
-    let n = refusal(
+    let r = run_lent(
         c,
-        core,
         image,
         inputs,
-        &stack,
-        registers,
-        memory,
-        addresses,
-        values,
-    );
-    if n != 0 {
-        return Ran {
-            number: n,
-            steps: 0,
-            cycles: 0,
-            machine: m,
-        };
-    }
-    if Machine::BUDGET_MOST < budget {
-        return Ran {
-            number: 16,
-            steps: 0,
-            cycles: 0,
-            machine: m,
-        };
-    }
-    let t = turns(
-        c,
         core,
-        image,
-        inputs,
         &mut stack,
         registers,
         memory,
@@ -218,12 +207,12 @@ pub fn run(
         values,
         budget,
     );
-    let next = t.core;
+    let next = r.core;
     let machine = Machine { core: next, stack };
     Ran {
-        number: t.stop,
-        steps: t.steps,
-        cycles: t.cycles,
+        number: r.number,
+        steps: r.steps,
+        cycles: r.cycles,
         machine,
     }
 }

@@ -1,0 +1,361 @@
+// A run: stretches of the loop over the cells of words that were met before, and between them single steps, whose cells are kept. And a step, which is one of those.
+ghost use mathlib.Core.Path.{_≡_};
+ghost use Prim.Native.Nat.{_+_, _*_, _≤_, _<_};
+ghost use lib.ListN.{length, getD};
+ghost use Rattle.laws.specs.Test.{Holds};
+ghost use Rattle.words.specs.Configs.{lawful};
+ghost use Rattle.state.specs.State.{env, state};
+ghost use Rattle.state.specs.Run.{runOf};
+ghost use Rattle.state.proofs.Ranges.{Good};
+ghost use Rattle.cells.specs.Cell.{cellOf};
+ghost use Rattle.machine.specs.Cached.{Cached};
+ghost use Rattle.machine.specs.Stepping.{endOf, turnsEnd};
+ghost use Rattle.machine.specs.Stretching.{Paused};
+use crate::Turns;
+use crate::exec::APART;
+use crate::memories::cell;
+use crate::single::by_cell;
+use crate::single::stopped;
+use crate::stretching::stretch;
+use state::Core;
+use state::Machine;
+use words::Config;
+
+// How many words after the one at PC are decoded with it.
+const AHEAD: u64 = 7;
+
+// A run of fewer steps keeps few cells, a run that can meet no more addresses than a small one holds keeps those, and any other a large number.
+const FEW: u64 = 16;
+
+const SMALL: u64 = 128;
+
+// One step.
+pub fn once(
+    c: Config,
+    m: Core,
+    image: &[u32],
+    inputs: &[u32],
+    stack: &mut [u32],
+    registers: &mut [u32],
+    memory: &mut [u32],
+    addresses: &mut [u32],
+    values: &mut [u32],
+) -> Turns
+    requires { ⌜ (length (now stack) ≡ 63) × Good (env c (now image) (now inputs)) (state m (now stack) (now registers) (now memory) (now addresses) (now values)) ⌝ }
+    ensures { λ r. ⌜ turnsEnd r (now (stack .exit)) (now (registers .exit)) (now (memory .exit)) (now (addresses .exit)) (now (values .exit)) ≡ endOf (runOf 1 (env c (now (image .entry)) (now (inputs .entry))) (state m (now (stack .entry)) (now (registers .entry)) (now (memory .entry)) (now (addresses .entry)) (now (values .entry)))) ⌝ }
+{
+    let pc = m.pc;
+    if c.imsize as usize <= pc {
+        return stopped(m, 4);
+    }
+    let x = cells::decode(c, cell(image, pc));
+    by_cell(
+        c,
+        m,
+        x,
+        image,
+        inputs,
+        stack,
+        registers,
+        memory,
+        addresses,
+        values,
+    )
+}
+
+// Keeps x as the cell of address pc.
+fn keep(c: Config, image: &[u32], mask: usize, pc: usize, x: u64, cells: &mut [u64])
+    requires { ⌜ Cached c (now image) mask (now cells) × (pc < c .imsize) × (getD (now image) pc 0 < 4294967296) × (x ≡ cellOf c (getD (now image) pc 0)) ⌝ }
+    ensures { λ _. ⌜ Cached c (now (image .entry)) mask (now (cells .exit)) ⌝ }
+{
+    let i = pc & mask;
+    cells[2 * i] = pc as u64;
+    cells[2 * i + 1] = x;
+}
+
+// Decodes words from pc on, at most `most`, to the first that is kept already.
+fn fill(c: Config, image: &[u32], mask: usize, pc: usize, cells: &mut [u64], most: u64)
+    requires { ⌜ Cached c (now image) mask (now cells) × Holds (lawful c) × (length (now image) ≡ c .imsize) × (pc ≤ 8388608) × (most ≤ 7) ⌝ }
+    ensures { λ _. ⌜ Cached c (now (image .entry)) mask (now (cells .exit)) ⌝ }
+{
+    let mut at = pc;
+    let mut left: u64 = most;
+    while 0 < left {
+        if image.len() <= at {
+            return;
+        }
+        let i = at & mask;
+        if cells[2 * i] == at as u64 {
+            if cells[2 * i + 1] != 0 {
+                return;
+            }
+        }
+        let x = cells::decode(c, cell(image, at));
+        keep(c, image, mask, at, x, cells);
+        at += 1;
+        left -= 1;
+    }
+}
+
+// The smaller of a number and AHEAD.
+fn ahead(n: u64) -> u64
+    ensures { λ r. ⌜ r ≤ 7 ⌝ }
+{
+    if n < AHEAD { n } else { AHEAD }
+}
+
+// A stretch of the loop, which special-register mode does not enter.
+fn stretched(
+    c: Config,
+    m: Core,
+    mask: usize,
+    cells: &[u64],
+    image: &[u32],
+    inputs: &[u32],
+    stack: &mut [u32],
+    registers: &mut [u32],
+    memory: &mut [u32],
+    addresses: &mut [u32],
+    values: &mut [u32],
+    budget: u64,
+) -> Turns
+    requires { ⌜ Cached c (now image) mask (now cells) × (length (now stack) ≡ 63) × Good (env c (now image) (now inputs)) (state m (now stack) (now registers) (now memory) (now addresses) (now values)) × (0 < budget) × (budget ≤ 1000000) ⌝ }
+    ensures { λ r. ⌜ Paused budget (env c (now (image .entry)) (now (inputs .entry))) (state m (now (stack .entry)) (now (registers .entry)) (now (memory .entry)) (now (addresses .entry)) (now (values .entry))) (state (r .core) (now (stack .exit)) (now (registers .exit)) (now (memory .exit)) (now (addresses .exit)) (now (values .exit))) r ⌝ }
+{
+    if m.mode != 0 {
+        return stopped(m, APART);
+    }
+    let limit = Machine::stack_limit(c.pcstack);
+    stretch(
+        registers,
+        cells,
+        mask,
+        c,
+        limit,
+        m,
+        image,
+        inputs,
+        stack,
+        memory,
+        addresses,
+        values,
+        budget,
+    )
+}
+
+// Steps of a state that 1, 2 and 3 let pass, to the budget or to a stop, over pairs of an address and the cell of its word.
+fn turning(
+    c: Config,
+    first: Core,
+    mask: usize,
+    cells: &mut [u64],
+    image: &[u32],
+    inputs: &[u32],
+    stack: &mut [u32],
+    registers: &mut [u32],
+    memory: &mut [u32],
+    addresses: &mut [u32],
+    values: &mut [u32],
+    budget: u64,
+) -> Turns
+    requires { ⌜ Cached c (now image) mask (now cells) × (length (now stack) ≡ 63) × Good (env c (now image) (now inputs)) (state first (now stack) (now registers) (now memory) (now addresses) (now values)) × (budget ≤ 1000000) ⌝ }
+    ensures { λ r. ⌜ turnsEnd r (now (stack .exit)) (now (registers .exit)) (now (memory .exit)) (now (addresses .exit)) (now (values .exit)) ≡ endOf (runOf budget (env c (now (image .entry)) (now (inputs .entry))) (state first (now (stack .entry)) (now (registers .entry)) (now (memory .entry)) (now (addresses .entry)) (now (values .entry)))) ⌝ }
+{
+    let mut core = first;
+    let mut done: u64 = 0;
+    let mut cycles: u64 = 0;
+    while done < budget {
+        let t = stretched(
+            c,
+            core,
+            mask,
+            cells,
+            image,
+            inputs,
+            stack,
+            registers,
+            memory,
+            addresses,
+            values,
+            budget - done,
+        );
+        let next = t.core;
+        core = next;
+        cycles = cycles + t.cycles;
+        done = done + t.steps;
+        if t.stop < APART {
+            return Turns {
+                stop: t.stop,
+                steps: done,
+                cycles,
+                core,
+            };
+        }
+        let pc = core.pc;
+        if c.imsize as usize <= pc {
+            return Turns {
+                stop: 4,
+                steps: done,
+                cycles,
+                core,
+            };
+        }
+        let x = cells::decode(c, cell(image, pc));
+        keep(c, image, mask, pc, x, cells);
+        fill(c, image, mask, pc + 1, cells, ahead(budget - done));
+        let u = by_cell(
+            c,
+            core,
+            x,
+            image,
+            inputs,
+            stack,
+            registers,
+            memory,
+            addresses,
+            values,
+        );
+        let after = u.core;
+        core = after;
+        if u.stop != 0 {
+            return Turns {
+                stop: u.stop,
+                steps: done,
+                cycles,
+                core,
+            };
+        }
+        cycles = cycles + u.cycles;
+        done = done + 1;
+    }
+    Turns {
+        stop: 0,
+        steps: done,
+        cycles,
+        core,
+    }
+}
+
+// With 16 cells.
+fn few(
+    c: Config,
+    m: Core,
+    image: &[u32],
+    inputs: &[u32],
+    stack: &mut [u32],
+    registers: &mut [u32],
+    memory: &mut [u32],
+    addresses: &mut [u32],
+    values: &mut [u32],
+    budget: u64,
+) -> Turns
+    requires { ⌜ (length (now stack) ≡ 63) × Good (env c (now image) (now inputs)) (state m (now stack) (now registers) (now memory) (now addresses) (now values)) × (budget ≤ 1000000) ⌝ }
+    ensures { λ r. ⌜ turnsEnd r (now (stack .exit)) (now (registers .exit)) (now (memory .exit)) (now (addresses .exit)) (now (values .exit)) ≡ endOf (runOf budget (env c (now (image .entry)) (now (inputs .entry))) (state m (now (stack .entry)) (now (registers .entry)) (now (memory .entry)) (now (addresses .entry)) (now (values .entry)))) ⌝ }
+{
+    let mut cells: [u64; 32] = [0; 32];
+    turning(
+        c,
+        m,
+        15,
+        &mut cells,
+        image,
+        inputs,
+        stack,
+        registers,
+        memory,
+        addresses,
+        values,
+        budget,
+    )
+}
+
+// With 128 cells.
+fn small(
+    c: Config,
+    m: Core,
+    image: &[u32],
+    inputs: &[u32],
+    stack: &mut [u32],
+    registers: &mut [u32],
+    memory: &mut [u32],
+    addresses: &mut [u32],
+    values: &mut [u32],
+    budget: u64,
+) -> Turns
+    requires { ⌜ (length (now stack) ≡ 63) × Good (env c (now image) (now inputs)) (state m (now stack) (now registers) (now memory) (now addresses) (now values)) × (budget ≤ 1000000) ⌝ }
+    ensures { λ r. ⌜ turnsEnd r (now (stack .exit)) (now (registers .exit)) (now (memory .exit)) (now (addresses .exit)) (now (values .exit)) ≡ endOf (runOf budget (env c (now (image .entry)) (now (inputs .entry))) (state m (now (stack .entry)) (now (registers .entry)) (now (memory .entry)) (now (addresses .entry)) (now (values .entry)))) ⌝ }
+{
+    let mut cells: [u64; 256] = [0; 256];
+    turning(
+        c,
+        m,
+        127,
+        &mut cells,
+        image,
+        inputs,
+        stack,
+        registers,
+        memory,
+        addresses,
+        values,
+        budget,
+    )
+}
+
+// With 2,048 cells: 32 KB, the most that a call lays on the stack.
+fn large(
+    c: Config,
+    m: Core,
+    image: &[u32],
+    inputs: &[u32],
+    stack: &mut [u32],
+    registers: &mut [u32],
+    memory: &mut [u32],
+    addresses: &mut [u32],
+    values: &mut [u32],
+    budget: u64,
+) -> Turns
+    requires { ⌜ (length (now stack) ≡ 63) × Good (env c (now image) (now inputs)) (state m (now stack) (now registers) (now memory) (now addresses) (now values)) × (budget ≤ 1000000) ⌝ }
+    ensures { λ r. ⌜ turnsEnd r (now (stack .exit)) (now (registers .exit)) (now (memory .exit)) (now (addresses .exit)) (now (values .exit)) ≡ endOf (runOf budget (env c (now (image .entry)) (now (inputs .entry))) (state m (now (stack .entry)) (now (registers .entry)) (now (memory .entry)) (now (addresses .entry)) (now (values .entry)))) ⌝ }
+{
+    let mut cells: [u64; 4096] = [0; 4096];
+    turning(
+        c,
+        m,
+        2047,
+        &mut cells,
+        image,
+        inputs,
+        stack,
+        registers,
+        memory,
+        addresses,
+        values,
+        budget,
+    )
+}
+
+// Steps of a state that 1, 2 and 3 let pass, to the budget or to a stop; as many cells as the run can use, or as pay.
+pub fn turns(
+    c: Config,
+    m: Core,
+    image: &[u32],
+    inputs: &[u32],
+    stack: &mut [u32],
+    registers: &mut [u32],
+    memory: &mut [u32],
+    addresses: &mut [u32],
+    values: &mut [u32],
+    budget: u64,
+) -> Turns
+    requires { ⌜ (length (now stack) ≡ 63) × Good (env c (now image) (now inputs)) (state m (now stack) (now registers) (now memory) (now addresses) (now values)) × (budget ≤ 1000000) ⌝ }
+    ensures { λ r. ⌜ turnsEnd r (now (stack .exit)) (now (registers .exit)) (now (memory .exit)) (now (addresses .exit)) (now (values .exit)) ≡ endOf (runOf budget (env c (now (image .entry)) (now (inputs .entry))) (state m (now (stack .entry)) (now (registers .entry)) (now (memory .entry)) (now (addresses .entry)) (now (values .entry)))) ⌝ }
+{
+    if budget < FEW {
+        return few(c, m, image, inputs, stack, registers, memory, addresses, values, budget);
+    }
+    if (budget <= SMALL) | (c.imsize as u64 <= SMALL) {
+        return small(c, m, image, inputs, stack, registers, memory, addresses, values, budget);
+    }
+    large(c, m, image, inputs, stack, registers, memory, addresses, values, budget)
+}
