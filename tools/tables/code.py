@@ -69,16 +69,6 @@ pub const CLASSES: [u8; 512] = [
 '''
 
 
-def keyed(): return f'''// Entries by bits 31 to 23 of a word, and those that another field chooses (specs/Finding.antt). {WRITTEN}
-
-{constants('u32', [(r['name'], '0x%08x' % lookup.entry(r)) for r in lookup.CHOSEN])}
-// The entry of each value of bits 31-23, or the code of the field that chooses it, an entry a line.
-pub const KEYS: [u32; 512] = [
-{entries(lookup.KEYS, '0x%08x')}
-];
-'''
-
-
 def columns(): return f'''// The rows as columns of numbers, an entry a line, in the order of specs/Rows.antt. {WRITTEN}
 
 // The word of each row with all parts zero.
@@ -226,8 +216,7 @@ def header(): return f'''/* The numbers of the rows, as in crates/words/src/numb
 
 
 def write(words, cells, include):
-    for file, text in (('numbers', numbers()), ('codes', codes()), ('actions', actions()), ('classes', classes()), ('keyed', keyed()), ('columns', columns()),
-                       ('single', single())):
+    for file, text in (('numbers', numbers()), ('codes', codes()), ('actions', actions()), ('classes', classes()), ('columns', columns()), ('single', single())):
         (words / 'src' / f'{file}.rt').write_text(text)
     for function, text in proofs(): (words / 'proofs' / 'single' / function / 'Proof.antt').write_text(text)
     (cells / 'src' / 'templates.rt').write_text(templates())

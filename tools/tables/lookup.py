@@ -1,7 +1,7 @@
 """How code looks a row up: its action, one number for kind, operation and operand together, and its check, one number for limits and option.
 
 Nothing here is to be believed: the proofs compare it with the rows."""
-from .rows import CLASSES, CONDITIONS, FORMS, INDEX, IRQ_SWITCH, MISC, NO_ROW, PORT, ROWS, UPPER_BYTES, class_of, marks, part
+from .rows import CONDITIONS, FORMS, ROWS, marks, part
 
 
 def supported(r): return r['option'] != 'never'
@@ -26,12 +26,11 @@ def action_name(a):
 
 
 def check(r):
-    """Code in bits 22-0, what bits 22-16 and 15-0 hold beside it, option, whether there is a byte number, and what makes it wait."""
+    """Code in bits 22-0, what bits 22-16 and 15-0 hold beside it, option, and whether there is a byte number."""
     if not supported(r): return None
     lower = part(r, 'source') if part(r, 'value') == 'unused' else part(r, 'value')
     side = lambda p: 'anything' if whole(r) else f'(part {p})'
-    wait = next((w for m, w in (('reads-port', 'input'), ('loads', 'load')) if m in marks(r)), 'no-wait')
-    return (r['base'] % (1 << 23), side(part(r, 'destination')), side(lower), r['option'], int(part(r, 'number') == 'byte'), wait)
+    return (r['base'] % (1 << 23), side(part(r, 'destination')), side(lower), r['option'], int(part(r, 'number') == 'byte'))
 
 
 def numbered(of, first): return list(dict.fromkeys([first] + [of(r) for r in ROWS]))
@@ -94,12 +93,3 @@ TAKEN = {'Z': 0b1010, 'NZ': 0b0101, 'GT': 0b0001, 'LT': 0b1100, 'GE': 0b0011, 'L
 
 
 def taken(kind): return TAKEN.get(kind[1], 0) if kind[0].startswith('branch') else 0
-
-
-# The field that chooses among the rows of a class: where it stands, the mask that cuts it out, where its entries begin (specs/Finding.antt).
-def field(shift, mask, start): return 0x80 | mask << 8 | shift << 16 | start << 21
-
-
-FIELDS = {INDEX: field(8, 255, 0), UPPER_BYTES: field(8, 255, 256), PORT: field(15, 1, 512), IRQ_SWITCH: field(22, 1, 514), MISC: field(16, 127, 516), NO_ROW: 0}
-KEYS = [entry(ROWS[c]) if c < INDEX else FIELDS[c] for c in CLASSES]
-CHOSEN = [r for r in ROWS if class_of(r['base'] >> 23) >= INDEX and entry(r)]

@@ -270,34 +270,23 @@ pub data Side : Type 0 where
   anything : Side
   part : Part → Side
 
--- a check's waits
-abbrev pub no-wait : ℕ
-no-wait = 0
-
-abbrev pub input : ℕ
-input = 1
-
-abbrev pub load : ℕ
-load = 2
-
--- A check: the code in bits 22-0, what bits 22-16 and 15-0 hold beside it, the option, whether there is a byte number, and what makes it wait.
+-- A check: the code in bits 22-0, what bits 22-16 and 15-0 hold beside it, the option, and whether there is a byte number.
 pub record Check : Type 0 where
   pub code : ℕ
   pub upper : Side
   pub lower : Side
   pub option : Option
   pub numbered : ℕ
-  pub wait : ℕ
 
-abbrev pub check : ℕ → Side → Side → Option → ℕ → ℕ → Check
-check code upper lower option numbered wait =
-    record {{ code = code; upper = upper; lower = lower; option = option; numbered = numbered; wait = wait }}
+abbrev pub check : ℕ → Side → Side → Option → ℕ → Check
+check code upper lower option numbered =
+    record {{ code = code; upper = upper; lower = lower; option = option; numbered = numbered }}
 
 -- the first refuses everything
 unfoldable pub checks : List Check
 checks =
-    check 0 (part unused) (part unused) never 0 no-wait ∷
-{lines('    check 0x%x %s %s %s %d %s ∷' % c for c in lookup.CHECKS[1:])}
+    check 0 (part unused) (part unused) never 0 ∷
+{lines('    check 0x%x %s %s %s %d ∷' % c for c in lookup.CHECKS[1:])}
     []
 
 -- a row's check, its condition, the form of its immediate and its action, as digits of one number

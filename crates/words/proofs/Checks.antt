@@ -12,12 +12,11 @@ use Rattle.laws.specs.Table.{every, at-every}
 use Rattle.words.specs.declared.Config.{Config}
 use Rattle.words.specs.Parts.{Part, Part-discrete, unused, flag, byte, register, target, is}
 use Rattle.words.specs.Parts.{Option, Option-discrete, never, needs}
-use Rattle.words.specs.Kinds.{Kind, unsupported, marksOf}
+use Rattle.words.specs.Kinds.{Kind, unsupported}
 use Rattle.words.specs.Rows.{Row, rows, noRow, rowCount, rowAt}
 use Rattle.words.specs.Codes.{formAt, conditionAt}
 use Rattle.words.specs.Words.{Layout, registers, upper-value, whole, layoutOf, upperIn, lowerIn, valueIn}
-use Rattle.words.specs.Facts.{factsFor, factsOf}
-use Rattle.words.specs.Actions.{flag′, destination′, source′, number′, value′, target′, unit′, actions, Side, anything, part, input, load, Check, checks, entries}
+use Rattle.words.specs.Actions.{flag′, destination′, source′, number′, value′, target′, unit′, actions, Side, anything, part, Check, checks, entries}
 use Rattle.words.specs.Lookup.{entryAt, actionAt, entryKind, checkAt}
 use Rattle.words.proofs.Keys.{key, code}
 
@@ -61,23 +60,6 @@ entry-supported n =
 pub entry-kind : (n : ℕ) → (rowAt n .option ≡ never → ⊥) → entryKind (entryAt n) ≡ rowAt n .kind
 entry-kind n o =
     entry-supported n ∙ pick-no (needs (rowAt n .option) never) unsupported (rowAt n .kind) (λ t. o (needs-it _ _ t))
-
--- the check of an entry waits for what the kind does
-abbrev pub waits-like : ℕ → Test
-waits-like n =
-    let k = checkAt (entryAt n % 64) in
-    yes? (alike (eqb (k .wait) input) (factsOf n .input)) and yes? (alike (eqb (k .wait) load) (factsOf n .load))
-
-abbrev waits-right : ℕ → Test
-waits-right n = if? (not (needs (rowAt n .option) never)) (waits-like n)
-
-all-waits : T (every rowCount (λ n. test (waits-right n)))
-unfolding rows rowAt marksOf factsFor entries entryAt checks checkAt
-all-waits = tt
-
-pub waits-at : (n : ℕ) → n < rowCount → (rowAt n .option ≡ never → ⊥) → Holds (waits-like n)
-waits-at n h o =
-    holds (waits-right n) (at-every rowCount (λ m. test (waits-right m)) n all-waits h) (isnt-it (rowAt n .option) never o)
 
 -- Checks
 

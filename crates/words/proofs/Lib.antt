@@ -9,5 +9,4 @@ pub mod Checks
 pub mod Parts
 pub mod Lookup
 pub mod Clear
-pub mod Finding
 pub mod Answers

@@ -2,7 +2,7 @@
 -- Assumes nothing.
 use Prim.Native.Nat.{ℕ, _+_, _-_, _/_, _%_, _≤_, _<_}
 use mathlib.Core.Path.{_≡_, refl, _∙_, sym}
-use mathlib.Core.Bool.{Bool, true, false, not, _&&_, _||_}
+use mathlib.Core.Bool.{Bool, true, false, not, _&&_}
 use mathlib.Core.List.{List, [], _∷_}
 use mathlib.Core.Logic.{_⊎_, inl, inr}
 use native.Mathlib.Nat.{not-suc-le-zero}
@@ -23,30 +23,13 @@ use Rattle.words.specs.Rows.{Row, rowCount, rowAt}
 use Rattle.words.specs.Words.{flagIn, Layout, registers, upper-value, whole, layoutOf, upperIn, lowerIn, valueIn, fieldsIn, spread, fits, refusals567, answered, partsBy, partsOf, readBy, readLawful}
 use Rattle.words.specs.Classes.{index, upper-bytes, port, irq-switch, misc, classOf, fieldOf, codeAt, choices, lookup, rowIn, rowOf}
 use Rattle.words.specs.Configs.{registerSizes, lawful}
-use Rattle.words.specs.Facts.{factsOf}
 use Rattle.words.specs.Claims.{understood}
-use Rattle.words.specs.Actions.{part, input, load, Check, checks, entries}
+use Rattle.words.specs.Actions.{part, Check, checks, entries}
 use Rattle.words.specs.Packed.{limitOf}
-use Rattle.words.specs.Lookup.{entryAt, entryOf, checkAt, limitIn, upperLimit, lowerLimit, waitOf, Quick, Agrees}
+use Rattle.words.specs.Lookup.{entryAt, entryOf, checkAt, limitIn, upperLimit, lowerLimit, Quick, Agrees}
 use Rattle.words.proofs.Keys.{code, most-of, row-facts}
 use Rattle.words.proofs.RoundTrip.{decoded}
-use Rattle.words.proofs.Checks.{alike-is, is-it, needs-it, isnt-it, waits-at, side-it, sides-like, check-at, upper-at, lower-at, value-at, whole-at, uses-at}
-
--- What a row waits for
-
-waits-either : (a b p : Bool) → pick {A = ℕ} a 1 (pick (b && p) 1 0) ≡ pick (a || b && p) 1 0
-unfolding pick
-waits-either true b p = refl
-waits-either false b p = refl
-
-pub waited : (c : Config) (n : ℕ) → n < rowCount → (rowAt n .option ≡ never → ⊥) →
-    waitOf c (checkAt (entryAt n % 64)) ≡ pick (factsOf n .input || factsOf n .load && not (eqb (c .dmpipe) 0)) 1 0
-unfolding waitOf
-waited c n h o =
-    let p = waits-at n h o in
-    let k = checkAt (entryAt n % 64) in
-    rw (alike-is (eqb (k .wait) input) (factsOf n .input) (p .0), alike-is (eqb (k .wait) load) (factsOf n .load) (p .1))
-    (waits-either (factsOf n .input) (factsOf n .load) (not (eqb (c .dmpipe) 0)))
+use Rattle.words.proofs.Checks.{is-it, needs-it, isnt-it, side-it, sides-like, check-at, upper-at, lower-at, value-at, whole-at, uses-at}
 
 -- A word that is read
 

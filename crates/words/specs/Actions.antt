@@ -113,62 +113,49 @@ pub data Side : Type 0 where
   anything : Side
   part : Part → Side
 
--- a check's waits
-abbrev pub no-wait : ℕ
-no-wait = 0
-
-abbrev pub input : ℕ
-input = 1
-
-abbrev pub load : ℕ
-load = 2
-
--- A check: the code in bits 22-0, what bits 22-16 and 15-0 hold beside it, the option, whether there is a byte number, and what makes it wait.
+-- A check: the code in bits 22-0, what bits 22-16 and 15-0 hold beside it, the option, and whether there is a byte number.
 pub record Check : Type 0 where
   pub code : ℕ
   pub upper : Side
   pub lower : Side
   pub option : Option
   pub numbered : ℕ
-  pub wait : ℕ
 
-abbrev pub check : ℕ → Side → Side → Option → ℕ → ℕ → Check
-check code upper lower option numbered wait =
-    record { code = code; upper = upper; lower = lower; option = option; numbered = numbered; wait = wait }
+abbrev pub check : ℕ → Side → Side → Option → ℕ → Check
+check code upper lower option numbered =
+    record { code = code; upper = upper; lower = lower; option = option; numbered = numbered }
 
 -- the first refuses everything
 unfoldable pub checks : List Check
 checks =
-    check 0 (part unused) (part unused) never 0 no-wait ∷
-    check 0x0 (part register) (part register) always 0 no-wait ∷
-    check 0x0 (part register) (part immediate) always 0 no-wait ∷
-    check 0x0 (part register) (part register) mult 0 no-wait ∷
-    check 0x0 (part register) (part immediate) mult 0 no-wait ∷
-    check 0x0 (part register) (part register) level1 0 no-wait ∷
-    check 0x0 (part register) (part count) always 0 no-wait ∷
-    check 0x100 (part register) (part register) level2 1 no-wait ∷
-    check 0x200 (part register) (part register) level2 1 no-wait ∷
-    check 0x600 (part register) (part register) level2 1 no-wait ∷
-    check 0x1400 (part register) (part register) level2 0 no-wait ∷
-    check 0x1800 (part register) (part unused) level2-memory 0 no-wait ∷
-    check 0x1c00 (part unused) (part register) level2-memory 0 load ∷
-    check 0x0 (part register) (part register) memory 0 load ∷
-    check 0x0 (part register) (part read-address) memory 0 load ∷
-    check 0x0 (part register) (part register) memory 0 no-wait ∷
-    check 0x0 (part register) (part write-address) memory 0 no-wait ∷
-    check 0x0 (part register) (part register) ports 0 input ∷
-    check 0x8000 (part register) (part register) rmw 0 input ∷
-    check 0x0 (part register) (part register) ports 0 no-wait ∷
-    check 0x0 (part register) (part immediate) ports 0 no-wait ∷
-    check 0x0 anything anything always 0 no-wait ∷
-    check 0x0 anything anything ports 0 no-wait ∷
-    check 0x0 (part register) (part unused) always 0 no-wait ∷
-    check 0x0 (part register) (part unused) ports 0 no-wait ∷
-    check 0x0 (part unit) (part bank-address) banks 0 no-wait ∷
-    check 0x0 (part unused) (part unused) always 0 no-wait ∷
-    check 0x10000 (part unused) (part unused) banks 0 no-wait ∷
-    check 0x40000 (part unused) (part unused) spr 0 no-wait ∷
-    check 0x50000 (part unused) (part unused) spr 0 no-wait ∷
+    check 0 (part unused) (part unused) never 0 ∷
+    check 0x0 (part register) (part register) always 0 ∷
+    check 0x0 (part register) (part immediate) always 0 ∷
+    check 0x0 (part register) (part register) mult 0 ∷
+    check 0x0 (part register) (part immediate) mult 0 ∷
+    check 0x0 (part register) (part register) level1 0 ∷
+    check 0x0 (part register) (part count) always 0 ∷
+    check 0x100 (part register) (part register) level2 1 ∷
+    check 0x200 (part register) (part register) level2 1 ∷
+    check 0x600 (part register) (part register) level2 1 ∷
+    check 0x1400 (part register) (part register) level2 0 ∷
+    check 0x1800 (part register) (part unused) level2-memory 0 ∷
+    check 0x1c00 (part unused) (part register) level2-memory 0 ∷
+    check 0x0 (part register) (part register) memory 0 ∷
+    check 0x0 (part register) (part read-address) memory 0 ∷
+    check 0x0 (part register) (part write-address) memory 0 ∷
+    check 0x0 (part register) (part register) ports 0 ∷
+    check 0x8000 (part register) (part register) rmw 0 ∷
+    check 0x0 (part register) (part immediate) ports 0 ∷
+    check 0x0 anything anything always 0 ∷
+    check 0x0 anything anything ports 0 ∷
+    check 0x0 (part register) (part unused) always 0 ∷
+    check 0x0 (part register) (part unused) ports 0 ∷
+    check 0x0 (part unit) (part bank-address) banks 0 ∷
+    check 0x0 (part unused) (part unused) always 0 ∷
+    check 0x10000 (part unused) (part unused) banks 0 ∷
+    check 0x40000 (part unused) (part unused) spr 0 ∷
+    check 0x50000 (part unused) (part unused) spr 0 ∷
     []
 
 -- a row's check, its condition, the form of its immediate and its action, as digits of one number
@@ -257,52 +244,52 @@ entries =
     0xac002002 ∷  -- MOV %d,<imm
     0xb000000d ∷  -- MOV %d,@%s
     0xb400000e ∷  -- MOV %d,&a
-    0xb800000f ∷  -- MOV @%d,%s
-    0xbc000010 ∷  -- MOV &a,%s
-    0xc0000011 ∷  -- MOVIO %d,@%s
-    0xc4000012 ∷  -- IORMW %d,@%s
-    0xc8000013 ∷  -- MOVIO @%d,%s
-    0xcc000014 ∷  -- MOVIO @%d,#imm
-    0xcc001014 ∷  -- MOVIO @%d,>imm
-    0xcc002014 ∷  -- MOVIO @%d,<imm
-    0xd0000015 ∷  -- JMP target
-    0xd4000115 ∷  -- JMP target,Z
-    0xd4000215 ∷  -- JMP target,NZ
-    0xd4000315 ∷  -- JMP target,GT
-    0xd4000415 ∷  -- JMP target,LT
-    0xd4000515 ∷  -- JMP target,GE
-    0xd4000615 ∷  -- JMP target,LE
+    0xb800000d ∷  -- MOV @%d,%s
+    0xbc00000f ∷  -- MOV &a,%s
+    0xc0000010 ∷  -- MOVIO %d,@%s
+    0xc4000011 ∷  -- IORMW %d,@%s
+    0xc8000010 ∷  -- MOVIO @%d,%s
+    0xcc000012 ∷  -- MOVIO @%d,#imm
+    0xcc001012 ∷  -- MOVIO @%d,>imm
+    0xcc002012 ∷  -- MOVIO @%d,<imm
+    0xd0000013 ∷  -- JMP target
+    0xd4000113 ∷  -- JMP target,Z
+    0xd4000213 ∷  -- JMP target,NZ
+    0xd4000313 ∷  -- JMP target,GT
+    0xd4000413 ∷  -- JMP target,LT
+    0xd4000513 ∷  -- JMP target,GE
+    0xd4000613 ∷  -- JMP target,LE
     0x00000700 ∷  -- JMP target,NIRQ
     0x00000800 ∷  -- JMP target,B0
     0x00000900 ∷  -- JMP target,B1
     0x00000a00 ∷  -- JMP target,NB0
     0x00000b00 ∷  -- JMP target,NB1
-    0xd4000c16 ∷  -- JMP target,BIO
-    0xd8000017 ∷  -- JMP @%d
-    0xdc000117 ∷  -- JMP @%d,Z
-    0xdc000217 ∷  -- JMP @%d,NZ
-    0xdc000317 ∷  -- JMP @%d,GT
-    0xdc000417 ∷  -- JMP @%d,LT
-    0xdc000517 ∷  -- JMP @%d,GE
-    0xdc000617 ∷  -- JMP @%d,LE
+    0xd4000c14 ∷  -- JMP target,BIO
+    0xd8000015 ∷  -- JMP @%d
+    0xdc000115 ∷  -- JMP @%d,Z
+    0xdc000215 ∷  -- JMP @%d,NZ
+    0xdc000315 ∷  -- JMP @%d,GT
+    0xdc000415 ∷  -- JMP @%d,LT
+    0xdc000515 ∷  -- JMP @%d,GE
+    0xdc000615 ∷  -- JMP @%d,LE
     0x00000700 ∷  -- JMP @%d,NIRQ
     0x00000800 ∷  -- JMP @%d,B0
     0x00000900 ∷  -- JMP @%d,B1
     0x00000a00 ∷  -- JMP @%d,NB0
     0x00000b00 ∷  -- JMP @%d,NB1
-    0xdc000c18 ∷  -- JMP @%d,BIO
+    0xdc000c16 ∷  -- JMP @%d,BIO
     0x00000000 ∷  -- COPid %s,#imm,channel
-    0xe0000015 ∷  -- JSR target
-    0xe4000017 ∷  -- JSR @%d
+    0xe0000013 ∷  -- JSR target
+    0xe4000015 ∷  -- JSR @%d
     0xe8000002 ∷  -- RLD %d,#imm
-    0xec000019 ∷  -- JSRWP address,WP
+    0xec000017 ∷  -- JSRWP address,WP
     0x00000000 ∷  -- IRQ_ON mask
     0x00000000 ∷  -- IRQ_OFF mask
-    0xf000001a ∷  -- RET
-    0xf400001b ∷  -- RETWP
+    0xf0000018 ∷  -- RET
+    0xf4000019 ∷  -- RETWP
     0x00000000 ∷  -- RETI
-    0xf800001c ∷  -- SPR_OFF
-    0xfc00001d ∷  -- SPR_ON
+    0xf800001a ∷  -- SPR_OFF
+    0xfc00001b ∷  -- SPR_ON
     0x00000000 ∷  -- IRQM_RLD
     0x00000000 ∷  -- IRQM_SS
     []

@@ -12,5 +12,4 @@ pub mod Packed
 pub mod Facts
 pub mod Actions
 pub mod Lookup
-pub mod Finding
 pub mod Claims

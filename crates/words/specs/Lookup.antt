@@ -1,7 +1,7 @@
 -- Looking a word up by lent tables: the entry of its row, the limits of the entry's check, and the parts that an action reads. This is how code goes about
 -- a step, not what a reader must believe: proofs/Lookup.antt ties each of these to Rows, Words and Facts.
 use Prim.Native.Nat.{ℕ, _+_, _-_, _*_, _/_, _%_, _<_}
-use mathlib.Core.Bool.{Bool, _&&_, _||_, not}
+use mathlib.Core.Bool.{Bool, _&&_, _||_}
 use mathlib.Core.Path.{_≡_}
 use mathlib.Core.List.{List}
 use lib.Dec.{T, eqb, ltb}
@@ -16,7 +16,7 @@ use Rattle.words.specs.Kinds.{Kind, unsupported}
 use Rattle.words.specs.Classes.{classOf, rowOf}
 use Rattle.words.specs.Codes.{formAt, conditionAt}
 use Rattle.words.specs.Packed.{limitOf}
-use Rattle.words.specs.Actions.{flag′, destination′, source′, number′, value′, target′, unit′, Action, action, actions, Side, anything, part, no-wait, input, load, Check, check, checks, entries}
+use Rattle.words.specs.Actions.{flag′, destination′, source′, number′, value′, target′, unit′, Action, action, actions, Side, anything, part, Check, check, checks, entries}
 
 -- Entries
 
@@ -44,7 +44,7 @@ entryKind e = actionKind (e / 0x4000000) e
 -- Limits
 
 unfoldable pub checkAt : ℕ → Check
-checkAt t = getD checks t (check 0 (part unused) (part unused) never 0 no-wait)
+checkAt t = getD checks t (check 0 (part unused) (part unused) never 0)
 
 -- what a side stays below; `all` is how many values its place has. At level 0 a shift count is left to the exact verdict.
 unfoldable pub limitIn : Config → ℕ → Side → ℕ
@@ -64,10 +64,6 @@ lowerLimit c k = k .code % 65536 + limitIn c 65536 (k .lower)
 -- whose limits are not 0, has none.
 unfoldable pub maskOf : ℕ → ℕ → ℕ
 maskOf upper lower = pick (eqb upper 0 || eqb lower 0) 0xffffffff (65536 * (128 - upper) + (65536 - lower))
-
--- what a step of check k waits beyond two cycles
-unfoldable pub waitOf : Config → Check → ℕ
-waitOf c k = pick (eqb (k .wait) input) 1 (pick (eqb (k .wait) load && not (eqb (c .dmpipe) 0)) 1 0)
 
 unfoldable pub uppers : Config → List ℕ
 uppers c = values (λ t. upperLimit c (checkAt t)) 0 64

@@ -1,12 +1,10 @@
-// Looking a word up by lent tables: the entry of its row, and the limits and costs of the entry's check (specs/Lookup.antt). A caller that reads many words
+// Looking a word up by lent tables: the entry of its row, and the limits of the entry's check (specs/Lookup.antt). A caller that reads many words
 // takes them once.
 ghost use mathlib.Core.Path.{_≡_};
 ghost use Rattle.laws.specs.Choice.{pick as choice};
-ghost use Rattle.words.specs.Finding.{masks, costs};
 ghost use Rattle.words.specs.Lookup.{entryTable, uppers, lowers};
 use crate::Config;
 use crate::columns::ENTRIES;
-use crate::masks::mask_of;
 
 // The digits of an entry: its check, its condition, the form of its immediate, its action.
 pub const CHECKS: u32 = 64;
@@ -70,10 +68,8 @@ pub fn upper_limits(c: Config) -> [u64; 64]
         memory,
         memory,
         memory,
-        memory,
         ports,
         modify,
-        ports,
         ports,
         128,
         branch,
@@ -84,6 +80,8 @@ pub fn upper_limits(c: Config) -> [u64; 64]
         leave,
         special_off,
         special_on,
+        0,
+        0,
         0,
         0,
         0,
@@ -144,17 +142,17 @@ pub fn lower_limits(c: Config) -> [u64; 64]
         0x1c00 + size,
         size,
         data,
-        size,
         data,
         size,
         0x8000 + size,
-        size,
         65536,
         65536,
         65536,
         1,
         1,
         65536,
+        1,
+        1,
         1,
         1,
         1,
@@ -194,92 +192,4 @@ pub fn lower_limits(c: Config) -> [u64; 64]
         1,
         1,
     ]
-}
-
-// What a step costs in cycles, by the check.
-pub fn cost_table(c: Config) -> [u64; 64]
-    ensures { λ r. ⌜ r ≡ costs c ⌝ }
-{
-    let load = pick(!(c.dmpipe == 0), 3, 2);
-    [
-        2,
-        2,
-        2,
-        2,
-        2,
-        2,
-        2,
-        2,
-        2,
-        2,
-        2,
-        2,
-        load,
-        load,
-        load,
-        2,
-        2,
-        3,
-        3,
-        2,
-        2,
-        2,
-        2,
-        2,
-        2,
-        2,
-        2,
-        2,
-        2,
-        2,
-        2,
-        2,
-        2,
-        2,
-        2,
-        2,
-        2,
-        2,
-        2,
-        2,
-        2,
-        2,
-        2,
-        2,
-        2,
-        2,
-        2,
-        2,
-        2,
-        2,
-        2,
-        2,
-        2,
-        2,
-        2,
-        2,
-        2,
-        2,
-        2,
-        2,
-        2,
-        2,
-        2,
-        2,
-    ]
-}
-
-// Both limits as one mask, by the check: a word that is clear of it is within them.
-pub fn mask_table(c: Config) -> [u32; 64]
-    ensures { λ r. ⌜ r ≡ masks c ⌝ }
-{
-    let uppers = upper_limits(c);
-    let lowers = lower_limits(c);
-    let mut t: [u32; 64] = [0xffffffff; 64];
-    let mut i: usize = 0;
-    while i < 30 {
-        t[i] = mask_of(uppers[i], lowers[i]);
-        i += 1;
-    }
-    t
 }

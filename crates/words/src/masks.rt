@@ -18,7 +18,7 @@ fn room(all: u32, used: u64) -> u32
 }
 
 // The mask of a check's two limits.
-pub fn mask_of(upper: u64, lower: u64) -> u32
+fn mask_of(upper: u64, lower: u64) -> u32
     ensures { λ r. ⌜ r ≡ maskOf upper lower ⌝ }
 {
     if (upper == 0) | (lower == 0) {
@@ -58,21 +58,19 @@ pub fn mask_for(c: Config, t: u32) -> u32
         12 => mask_of(pick((1 < c.alulevel) & (0 < c.dmsize), 1, 0), 0x1c00 + size),
         13 => mask_of(pick(0 < c.dmsize, size, 0), size),
         14 => mask_of(pick(0 < c.dmsize, size, 0), data),
-        15 => mask_of(pick(0 < c.dmsize, size, 0), size),
-        16 => mask_of(pick(0 < c.dmsize, size, 0), data),
-        17 => mask_of(pick(c.iopif == 1, size, 0), size),
-        18 => mask_of(pick(c.ioprmw == 1, size, 0), 0x8000 + size),
-        19 => mask_of(pick(c.iopif == 1, size, 0), size),
-        20 => mask_of(pick(c.iopif == 1, size, 0), 65536),
-        21 => mask_of(128, 65536),
-        22 => mask_of(pick(c.iopif == 1, 128, 0), 65536),
-        23 => mask_of(size, 1),
-        24 => mask_of(pick(c.iopif == 1, size, 0), 1),
-        25 => mask_of(pick(c.regsize < c.rmsize, 64, 0), 65536),
-        26 => mask_of(1, 1),
-        27 => mask_of(pick(c.regsize < c.rmsize, 2, 0), 1),
-        28 => mask_of(pick(c.aluspr == 1, 5, 0), 1),
-        29 => mask_of(pick(c.aluspr == 1, 6, 0), 1),
+        15 => mask_of(pick(0 < c.dmsize, size, 0), data),
+        16 => mask_of(pick(c.iopif == 1, size, 0), size),
+        17 => mask_of(pick(c.ioprmw == 1, size, 0), 0x8000 + size),
+        18 => mask_of(pick(c.iopif == 1, size, 0), 65536),
+        19 => mask_of(128, 65536),
+        20 => mask_of(pick(c.iopif == 1, 128, 0), 65536),
+        21 => mask_of(size, 1),
+        22 => mask_of(pick(c.iopif == 1, size, 0), 1),
+        23 => mask_of(pick(c.regsize < c.rmsize, 64, 0), 65536),
+        24 => mask_of(1, 1),
+        25 => mask_of(pick(c.regsize < c.rmsize, 2, 0), 1),
+        26 => mask_of(pick(c.aluspr == 1, 5, 0), 1),
+        27 => mask_of(pick(c.aluspr == 1, 6, 0), 1),
         _ => 0xffffffff,
     }
 }

@@ -83,7 +83,7 @@ returns-17 c = limits _ _ 16 _ _ _ (c .before .before .before .match .keys17) (c
 
 returns-18 : tie.Need-returns-18
 unfolding maskOf upperLimit lowerLimit limitIn limitOf available checkAt checks pick
-returns-18 c = limits _ _ 17 _ _ _ (c .before .before .before .match .keys18) (c .mask-of17 .ensures) (c .before .pick15 .ensures ∙ simp (and-true, zero-add)) (sym (zero-add _))
+returns-18 c = limits _ _ 17 _ _ _ (c .before .before .before .match .keys18) (c .mask-of17 .ensures) (c .before .pick15 .ensures ∙ simp (and-true, zero-add)) refl
 
 returns-19 : tie.Need-returns-19
 unfolding maskOf upperLimit lowerLimit limitIn limitOf available checkAt checks pick
@@ -91,49 +91,41 @@ returns-19 c = limits _ _ 18 _ _ _ (c .before .before .before .match .keys19) (c
 
 returns-20 : tie.Need-returns-20
 unfolding maskOf upperLimit lowerLimit limitIn limitOf available checkAt checks pick
-returns-20 c = limits _ _ 19 _ _ _ (c .before .before .before .match .keys20) (c .mask-of19 .ensures) (c .before .pick17 .ensures ∙ simp (and-true, zero-add)) (sym (zero-add _))
+returns-20 c = limits _ _ 19 _ _ _ (c .before .match .keys20) (c .mask-of19 .ensures) refl refl
 
 returns-21 : tie.Need-returns-21
 unfolding maskOf upperLimit lowerLimit limitIn limitOf available checkAt checks pick
-returns-21 c = limits _ _ 20 _ _ _ (c .before .before .before .match .keys21) (c .mask-of20 .ensures) (c .before .pick18 .ensures ∙ simp (and-true, zero-add)) refl
+returns-21 c = limits _ _ 20 _ _ _ (c .before .before .before .match .keys21) (c .mask-of20 .ensures) (c .before .pick17 .ensures ∙ simp (and-true, zero-add)) refl
 
 returns-22 : tie.Need-returns-22
 unfolding maskOf upperLimit lowerLimit limitIn limitOf available checkAt checks pick
-returns-22 c = limits _ _ 21 _ _ _ (c .before .match .keys22) (c .mask-of21 .ensures) refl refl
+returns-22 c = limits _ _ 21 _ _ _ (c .before .match .keys22) (c .mask-of21 .ensures) (sym (zero-add _)) refl
 
 returns-23 : tie.Need-returns-23
 unfolding maskOf upperLimit lowerLimit limitIn limitOf available checkAt checks pick
-returns-23 c = limits _ _ 22 _ _ _ (c .before .before .before .match .keys23) (c .mask-of22 .ensures) (c .before .pick19 .ensures ∙ simp (and-true, zero-add)) refl
+returns-23 c = limits _ _ 22 _ _ _ (c .before .before .before .match .keys23) (c .mask-of22 .ensures) (c .before .pick18 .ensures ∙ simp (and-true, zero-add)) refl
 
 returns-24 : tie.Need-returns-24
 unfolding maskOf upperLimit lowerLimit limitIn limitOf available checkAt checks pick
-returns-24 c = limits _ _ 23 _ _ _ (c .before .match .keys24) (c .mask-of23 .ensures) (sym (zero-add _)) refl
+returns-24 c = limits _ _ 23 _ _ _ (c .before .before .before .match .keys24) (c .mask-of23 .ensures) (c .before .pick19 .ensures ∙ simp (and-true, zero-add)) refl
 
 returns-25 : tie.Need-returns-25
 unfolding maskOf upperLimit lowerLimit limitIn limitOf available checkAt checks pick
-returns-25 c = limits _ _ 24 _ _ _ (c .before .before .before .match .keys25) (c .mask-of24 .ensures) (c .before .pick20 .ensures ∙ simp (and-true, zero-add)) refl
+returns-25 c = limits _ _ 24 _ _ _ (c .before .match .keys25) (c .mask-of24 .ensures) refl refl
 
 returns-26 : tie.Need-returns-26
 unfolding maskOf upperLimit lowerLimit limitIn limitOf available checkAt checks pick
-returns-26 c = limits _ _ 25 _ _ _ (c .before .before .before .match .keys26) (c .mask-of25 .ensures) (c .before .pick21 .ensures ∙ simp (and-true, zero-add)) refl
+returns-26 c = limits _ _ 25 _ _ _ (c .before .before .before .match .keys26) (c .mask-of25 .ensures) (c .before .pick20 .ensures ∙ simp (and-true)) refl
 
 returns-27 : tie.Need-returns-27
 unfolding maskOf upperLimit lowerLimit limitIn limitOf available checkAt checks pick
-returns-27 c = limits _ _ 26 _ _ _ (c .before .match .keys27) (c .mask-of26 .ensures) refl refl
+returns-27 c = limits _ _ 26 _ _ _ (c .before .before .before .match .keys27) (c .mask-of26 .ensures) (c .before .pick21 .ensures ∙ simp (and-true)) refl
 
 returns-28 : tie.Need-returns-28
 unfolding maskOf upperLimit lowerLimit limitIn limitOf available checkAt checks pick
 returns-28 c = limits _ _ 27 _ _ _ (c .before .before .before .match .keys28) (c .mask-of27 .ensures) (c .before .pick22 .ensures ∙ simp (and-true)) refl
 
-returns-29 : tie.Need-returns-29
-unfolding maskOf upperLimit lowerLimit limitIn limitOf available checkAt checks pick
-returns-29 c = limits _ _ 28 _ _ _ (c .before .before .before .match .keys29) (c .mask-of28 .ensures) (c .before .pick23 .ensures ∙ simp (and-true)) refl
-
-returns-30 : tie.Need-returns-30
-unfolding maskOf upperLimit lowerLimit limitIn limitOf available checkAt checks pick
-returns-30 c = limits _ _ 29 _ _ _ (c .before .before .before .match .keys30) (c .mask-of29 .ensures) (c .before .pick24 .ensures ∙ simp (and-true)) refl
-
 pub mask-for-spec : {M : Type 1} → statement M
 mask-for-spec =
     tie.close
-    (tie.spec (λ c. search needs) (λ c. search needs) (λ c κs. tt) (λ c κs. tt) (λ c κs. tt) (λ c κs. tt) (λ c κs. tt) (λ c κs. tt) (λ c κs. tt) (λ c κs. tt) (λ c κs. tt) (λ c κs. tt) (λ c κs. tt) (λ c. search needs) (λ c κs. tt) (λ c κs. tt) (λ c. search needs) (λ c κs. tt) (λ c κs. tt) (λ c. search needs) (λ c κs. tt) (λ c κs. tt) (λ c. search needs) (λ c κs. tt) (λ c κs. tt) (λ c κs. tt) (λ c κs. tt) (λ c. search needs) (λ c κs. tt) (λ c κs. tt) (λ c κs. tt) (λ c κs. tt) (λ c κs. tt) (λ c κs. tt) (λ c κs. tt) (λ c κs. tt) (λ c κs. tt) (λ c κs. tt) (λ c κs. tt) (λ c κs. tt) (λ c. search needs) (λ c κs. tt) (λ c κs. tt) (λ c κs. tt) (λ c κs. tt) (λ c κs. tt) (λ c κs. tt) (λ c κs. tt) (λ c κs. tt) (λ c κs. tt) (λ c κs. tt) (λ c κs. tt) (λ c κs. tt) (λ c κs. tt) (λ c κs. tt) (λ c κs. tt) (λ c κs. tt) (λ c κs. tt) (λ c κs. tt) (λ c κs. tt) (λ c κs. tt) returns returns-2 returns-3 returns-4 returns-5 returns-6 returns-7 returns-8 returns-9 returns-10 returns-11 returns-12 returns-13 returns-14 returns-15 returns-16 returns-17 returns-18 returns-19 returns-20 returns-21 returns-22 returns-23 returns-24 returns-25 returns-26 returns-27 returns-28 returns-29 returns-30 (λ c. past _ _ (excluded _ 30 (c .match .rest))))
+    (tie.spec (λ c. search needs) (λ c. search needs) (λ c κs. tt) (λ c κs. tt) (λ c κs. tt) (λ c κs. tt) (λ c κs. tt) (λ c κs. tt) (λ c κs. tt) (λ c κs. tt) (λ c κs. tt) (λ c κs. tt) (λ c κs. tt) (λ c. search needs) (λ c κs. tt) (λ c κs. tt) (λ c. search needs) (λ c κs. tt) (λ c κs. tt) (λ c. search needs) (λ c κs. tt) (λ c κs. tt) (λ c. search needs) (λ c κs. tt) (λ c κs. tt) (λ c κs. tt) (λ c κs. tt) (λ c. search needs) (λ c κs. tt) (λ c κs. tt) (λ c κs. tt) (λ c κs. tt) (λ c κs. tt) (λ c κs. tt) (λ c κs. tt) (λ c κs. tt) (λ c κs. tt) (λ c κs. tt) (λ c. search needs) (λ c κs. tt) (λ c κs. tt) (λ c κs. tt) (λ c κs. tt) (λ c κs. tt) (λ c κs. tt) (λ c κs. tt) (λ c κs. tt) (λ c κs. tt) (λ c κs. tt) (λ c κs. tt) (λ c κs. tt) (λ c κs. tt) (λ c κs. tt) (λ c κs. tt) (λ c κs. tt) (λ c κs. tt) (λ c κs. tt) returns returns-2 returns-3 returns-4 returns-5 returns-6 returns-7 returns-8 returns-9 returns-10 returns-11 returns-12 returns-13 returns-14 returns-15 returns-16 returns-17 returns-18 returns-19 returns-20 returns-21 returns-22 returns-23 returns-24 returns-25 returns-26 returns-27 returns-28 (λ c. past _ _ (excluded _ 28 (c .match .rest))))
