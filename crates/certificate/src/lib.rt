@@ -3,6 +3,7 @@
 mod judging;
 mod reading;
 pub mod searching;
+mod settling;
 
 pub use searching::check;
 

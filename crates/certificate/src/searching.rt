@@ -3,6 +3,7 @@ ghost use mathlib.Core.Path.{_≡_};
 ghost use mathlib.Core.Bool.{not};
 ghost use Prim.Native.Nat.{_<_};
 ghost use lib.Dec.{eqb};
+ghost use lib.ListN.{length};
 ghost use Rattle.laws.specs.Choice.{pick};
 ghost use Rattle.laws.specs.Test.{imp, Holds};
 ghost use Rattle.rules.specs.Marks.{markAt, levelOf};
@@ -10,6 +11,7 @@ ghost use Rattle.rules.specs.Rules.{readsPort};
 ghost use Rattle.rules.specs.Claims.{Checks};
 ghost use Rattle.rules.specs.Check.{passed, lowest, firstBroken, checkOf};
 ghost use Rattle.certificate.specs.Answers.{answerOf};
+ghost use Rattle.state.specs.State.{stackLimit};
 ghost use Rattle.words.specs.Configs.{lawful};
 ghost use Rattle.words.specs.Lookup.{Limits};
 ghost use Rattle.words.specs.Packed.{Tables};
@@ -19,6 +21,7 @@ use crate::reading::exact_look;
 use crate::reading::look;
 use crate::reading::mark_at;
 use crate::reading::word_at;
+use crate::settling::settled;
 use state::Machine;
 use words::Config;
 
@@ -52,6 +55,7 @@ fn unused_rule(a: usize) -> u32
 
 // The lowest rule that address a breaks by itself or its successors; 0: none. An unused address is not read.
 fn rule_at(
+    limit: usize,
     c: Config,
     classes: &[u8],
     bases: &[u32],
@@ -63,12 +67,28 @@ fn rule_at(
     certificate: &[u8],
     a: usize,
 ) -> u32
-    requires { ⌜ Tables (now classes) (now bases) (now packs) × Limits c (now entries) (now uppers) (now lowers) × Holds (lawful c) × (a < 4294967296) ⌝ }
+    requires { ⌜ Tables (now classes) (now bases) (now packs) × Limits c (now entries) (now uppers) (now lowers) × Holds (lawful c) × (a < 4294967296) × (limit ≡ stackLimit (c .pcstack)) × (length (now certificate) ≡ c .imsize) ⌝ }
     ensures { λ r. ⌜ r ≡ lowest c (now (image .entry)) (now (certificate .entry)) a ⌝ }
 {
     let x = mark_at(certificate, a);
     if x == 255 {
         return unused_rule(a);
+    }
+    if settled(
+        limit,
+        c,
+        classes,
+        bases,
+        packs,
+        entries,
+        uppers,
+        lowers,
+        image,
+        certificate,
+        a,
+        x,
+    ) {
+        return 0;
     }
     let l = look(
         c,
@@ -86,7 +106,7 @@ fn rule_at(
     lowest_rule(
         a == 0,
         c.imsize as usize,
-        Machine::stack_limit(c.pcstack),
+        limit,
         next,
         l.number,
         l.source,
@@ -112,13 +132,15 @@ fn first_broken(
     image: &[u32],
     certificate: &[u8],
 ) -> Checked
-    requires { ⌜ Tables (now classes) (now bases) (now packs) × Limits c (now entries) (now uppers) (now lowers) × Holds (lawful c) ⌝ }
+    requires { ⌜ Tables (now classes) (now bases) (now packs) × Limits c (now entries) (now uppers) (now lowers) × Holds (lawful c) × (length (now certificate) ≡ c .imsize) ⌝ }
     ensures { λ r. ⌜ answerOf r ≡ firstBroken (lowest c (now (image .entry)) (now (certificate .entry))) (passed (levelOf (markAt (now (certificate .entry)) 0))) (c .imsize) 0 ⌝ }
 {
     let size = c.imsize as usize;
+    let limit = Machine::stack_limit(c.pcstack);
     let mut a = 0;
     while a < size {
         let rule = rule_at(
+            limit,
             c,
             classes,
             bases,
