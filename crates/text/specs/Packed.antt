@@ -7,8 +7,9 @@ use lib.Dec.{eqb}
 use lib.ListN.{length, getD}
 use Rattle.laws.specs.Choice.{pick}
 use Rattle.laws.specs.Lists.{column}
+use Rattle.laws.specs.Table.{values}
 use Rattle.words.specs.declared.Instruction.{Instruction}
-use Rattle.syntax.specs.Digits.{hex, unpacked}
+use Rattle.syntax.specs.Digits.{digit, hex, unpacked}
 use Rattle.syntax.specs.Quoted.{quoted}
 use Rattle.text.specs.Printed.{strings, styleTable}
 use Rattle.text.specs.declared.forms.Piece.{Piece}
@@ -24,6 +25,10 @@ stringTable = column (λ s. packedFrom 0 (quoted s)) strings
 
 unfoldable pub sizeTable : List ℕ
 sizeTable = column (λ s. length (quoted s)) strings
+
+-- the two hex digits of each byte, the first lowest
+unfoldable pub pairTable : List ℕ
+pairTable = values (λ b. digit (b / 16) + 256 * digit (b % 16)) 0 256
 
 -- the tables that are lent are these
 pub record Lent (strings sizes styles : List ℕ) : Type 0 where

@@ -4,9 +4,10 @@ ghost use Prim.Native.Nat.{_<_, _≤_, _+_};
 ghost use lib.ListN.{length, getD};
 ghost use Rattle.laws.specs.Choice.{pick as choice};
 ghost use Rattle.text.specs.Pages.{Wrote};
-ghost use Rattle.text.specs.Packed.{Lent, Named, pieceText, formText, pieceLent, shownPart, lastMark, formIn, formLent};
+ghost use Rattle.text.specs.Packed.{pairTable, Lent, Named, pieceText, formText, pieceLent, shownPart, lastMark, formIn, formLent};
 use crate::writers::put_hex;
 use crate::writers::put_packed;
+use crate::writers::put_pairs;
 use words::Instruction;
 
 // `size` bytes that `bytes` packs, and the low `width` hex digits of `value`.
@@ -60,6 +61,30 @@ pub fn put_form(page: &mut [u8], at: usize, f: Form) -> usize
     let j = put_piece(page, i, b);
     let k = put_piece(page, j, c);
     put_piece(page, k, d)
+}
+
+// The same with the digits by the lent table of pairs: for callers that write many lines.
+
+fn put_piece_lent(pairs: &[u16; 256], page: &mut [u8], at: usize, p: Piece) -> usize
+    requires { ⌜ (now pairs ≡ pairTable) × (at + length (pieceText p) ≤ length (now page)) ⌝ }
+    ensures { λ r. ⌜ Wrote (now (page .entry)) at (pieceText p) r (now (page .exit)) ⌝ }
+{
+    let a = put_packed(page, at, p.size as usize, p.bytes);
+    put_pairs(pairs, page, a, p.width as usize, p.value)
+}
+
+pub fn put_form_lent(pairs: &[u16; 256], page: &mut [u8], at: usize, f: Form) -> usize
+    requires { ⌜ (now pairs ≡ pairTable) × (at + length (formText f) ≤ length (now page)) ⌝ }
+    ensures { λ r. ⌜ Wrote (now (page .entry)) at (formText f) r (now (page .exit)) ⌝ }
+{
+    let a = f.name;
+    let b = f.first;
+    let c = f.second;
+    let d = f.last;
+    let i = put_piece_lent(pairs, page, at, a);
+    let j = put_piece_lent(pairs, page, i, b);
+    let k = put_piece_lent(pairs, page, j, c);
+    put_piece_lent(pairs, page, k, d)
 }
 
 // A style by a lent table; past its end none.

@@ -5,6 +5,7 @@ mod forms;
 mod lines;
 pub mod listing;
 pub mod pages;
+mod pairs;
 mod tables;
 mod texts;
 mod writers;

@@ -11,17 +11,17 @@ ghost use Rattle.words.specs.Words.{readLawful};
 ghost use Rattle.syntax.specs.Digits.{hex, unpacked};
 ghost use Rattle.syntax.specs.Forms.{textOf};
 ghost use Rattle.text.specs.Lines.{lineOf};
-ghost use Rattle.text.specs.Packed.{formText, Lent};
+ghost use Rattle.text.specs.Packed.{formText, pairTable, Lent};
 ghost use Rattle.text.specs.Pages.{Wrote};
 ghost use Rattle.text.specs.Texts.{refusedText, shownText, wordText};
 use crate::forms::Form;
 use crate::forms::Piece;
 use crate::forms::form_len;
-use crate::forms::put_form;
+use crate::forms::put_form_lent;
 use crate::texts::text_form;
 use crate::texts::too_long;
 use crate::writers::put_byte;
-use crate::writers::put_hex;
+use crate::writers::put_pairs;
 use words::Config;
 use words::Instruction;
 use words::Reading;
@@ -143,14 +143,14 @@ pub fn line_len(f: Form) -> usize
 }
 
 // The line of word w at address a, with the text f.
-pub fn put_line(page: &mut [u8], at: usize, a: usize, w: u32, f: Form) -> usize
-    requires { ⌜ at + (length (formText f) + 17) ≤ length (now page) ⌝ }
+pub fn put_line(pairs: &[u16; 256], page: &mut [u8], at: usize, a: usize, w: u32, f: Form) -> usize
+    requires { ⌜ (now pairs ≡ pairTable) × (at + (length (formText f) + 17) ≤ length (now page)) ⌝ }
     ensures { λ r. ⌜ Wrote (now (page .entry)) at (lineOf a w (formText f)) r (now (page .exit)) ⌝ }
 {
-    let i = put_hex(page, at, 6, a as u64);
+    let i = put_pairs(pairs, page, at, 6, a as u64);
     let j = put_byte(page, i, 32);
-    let k = put_hex(page, j, 8, w as u64);
+    let k = put_pairs(pairs, page, j, 8, w as u64);
     let l = put_byte(page, k, 32);
-    let m = put_form(page, l, f);
+    let m = put_form_lent(pairs, page, l, f);
     put_byte(page, m, 10)
 }

@@ -9,11 +9,12 @@ ghost use Rattle.words.specs.Packed.{Tables};
 ghost use Rattle.text.specs.Answers.{listedOf};
 ghost use Rattle.text.specs.Claims.{Lists};
 ghost use Rattle.text.specs.Lines.{listed, listNumber, listOf};
-ghost use Rattle.text.specs.Packed.{Lent};
+ghost use Rattle.text.specs.Packed.{Lent, pairTable};
 use crate::Listed;
 use crate::lines::line_len;
 use crate::lines::put_line;
 use crate::lines::word_form;
+use crate::tables::pair_table;
 use crate::tables::size_table;
 use crate::tables::string_table;
 use crate::tables::style_table;
@@ -32,12 +33,13 @@ fn list_lines(
     strings: &[u64],
     sizes: &[u8],
     styles: &[u64],
+    pairs: &[u16; 256],
     image: &[u32],
     first: usize,
     page: &mut [u8],
     place: usize,
 ) -> Listed
-    requires { ⌜ Tables (now classes) (now bases) (now packs) × Limits c (now entries) (now uppers) (now lowers) × Holds (lawful c) × Lent (now strings) (now sizes) (now styles) ⌝ }
+    requires { ⌜ Tables (now classes) (now bases) (now packs) × Limits c (now entries) (now uppers) (now lowers) × Holds (lawful c) × Lent (now strings) (now sizes) (now styles) × (now pairs ≡ pairTable) ⌝ }
     ensures { λ r. ⌜ listedOf r (now (page .exit)) ≡ listed c (now (image .entry)) (now (page .entry)) place first (length (now (image .entry)) - first) ⌝ }
 {
     let mut at = place;
@@ -64,7 +66,7 @@ fn list_lines(
                 next: a,
             };
         }
-        at = put_line(page, at, a, w, f);
+        at = put_line(pairs, page, at, a, w, f);
         a += 1;
     }
     Listed {
@@ -111,6 +113,7 @@ fn list_answer(c: Config, image: &[u32], first: usize, page: &mut [u8], place: u
     let strings = string_table();
     let sizes = size_table();
     let styles = style_table();
+    let pairs = pair_table();
     list_lines(
         c,
         &classes,
@@ -122,6 +125,7 @@ fn list_answer(c: Config, image: &[u32], first: usize, page: &mut [u8], place: u
         &strings,
         &sizes,
         &styles,
+        &pairs,
         image,
         first,
         page,

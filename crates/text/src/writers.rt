@@ -4,6 +4,7 @@ ghost use mathlib.Core.List.{_∷_, []};
 ghost use Prim.Native.Nat.{_<_, _≤_, _+_};
 ghost use lib.ListN.{length};
 ghost use Rattle.syntax.specs.Digits.{digit, hex, unpacked};
+ghost use Rattle.text.specs.Packed.{pairTable};
 ghost use Rattle.text.specs.Pages.{Wrote};
 
 // The small hex digit of d.
@@ -26,6 +27,29 @@ pub fn put_hex(page: &mut [u8], at: usize, w: usize, n: u64) -> usize
         let d = (m % 16) as u8;
         page[at + i] = digit_of(d);
         m = m / 16;
+    }
+    at + w
+}
+
+// The low w hex digits of n, two at a time by the lent table.
+pub fn put_pairs(pairs: &[u16; 256], page: &mut [u8], at: usize, w: usize, n: u64) -> usize
+    requires { ⌜ (now pairs ≡ pairTable) × (at + w ≤ length (now page)) ⌝ }
+    ensures { λ r. ⌜ Wrote (now (page .entry)) at (hex w n) r (now (page .exit)) ⌝ }
+{
+    let mut i = w;
+    let mut m = n;
+    while 1 < i {
+        i -= 2;
+        let b = (m % 256) as usize;
+        let v = pairs[b];
+        page[at + i + 1] = (v / 256 % 256) as u8;
+        page[at + i] = (v % 256) as u8;
+        m = m / 256;
+    }
+    if i == 1 {
+        let d = (m % 16) as u8;
+        page[at] = digit_of(d);
+        return at + w;
     }
     at + w
 }
