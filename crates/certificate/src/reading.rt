@@ -3,9 +3,6 @@ ghost use mathlib.Core.Path.{_≡_};
 ghost use lib.ListN.{getD};
 ghost use Rattle.rules.specs.Marks.{markAt};
 ghost use Rattle.certificate.specs.Reading.{PartsOf};
-ghost use Rattle.laws.specs.Test.{Holds};
-ghost use Rattle.words.specs.Configs.{lawful};
-ghost use Rattle.words.specs.Lookup.{Limits};
 ghost use Rattle.words.specs.Packed.{Tables};
 use words::Config;
 use words::Reading;
@@ -35,8 +32,8 @@ pub fn word_at(image: &[u32], a: usize) -> u32
     if a < image.len() { image[a] } else { 0 }
 }
 
-// Word w, read by the lent tables with each refusal tested.
-pub fn exact_look(c: Config, classes: &[u8], bases: &[u32], packs: &[u64], w: u32) -> Parts
+// Word w, read by the lent tables.
+pub fn look(c: Config, classes: &[u8], bases: &[u32], packs: &[u64], w: u32) -> Parts
     requires { ⌜ Tables (now classes) (now bases) (now packs) ⌝ }
     ensures { λ r. ⌜ PartsOf c w r ⌝ }
 {
@@ -55,31 +52,4 @@ pub fn exact_look(c: Config, classes: &[u8], bases: &[u32], packs: &[u64], w: u3
             packed: words::packed_lent(packs, i.row),
         },
     }
-}
-
-// Word w, read by the lent tables: as a rule by its limits alone.
-pub fn look(
-    c: Config,
-    classes: &[u8],
-    bases: &[u32],
-    packs: &[u64],
-    entries: &[u32],
-    uppers: &[u64],
-    lowers: &[u64],
-    w: u32,
-) -> Parts
-    requires { ⌜ Tables (now classes) (now bases) (now packs) × Limits c (now entries) (now uppers) (now lowers) × Holds (lawful c) ⌝ }
-    ensures { λ r. ⌜ PartsOf c w r ⌝ }
-{
-    let n = words::row_lent(classes, w);
-    if words::below_limits(entries, uppers, lowers, n, w) {
-        let i = words::parts_lent(bases, packs, c, n, w);
-        return Parts {
-            number: 0,
-            source: i.source,
-            value: i.value,
-            packed: words::packed_lent(packs, i.row),
-        };
-    }
-    exact_look(c, classes, bases, packs, w)
 }

@@ -17,7 +17,6 @@ ghost use Rattle.words.specs.Lookup.{Limits};
 ghost use Rattle.words.specs.Packed.{Tables};
 use crate::Checked;
 use crate::judging::lowest_rule;
-use crate::reading::exact_look;
 use crate::reading::look;
 use crate::reading::mark_at;
 use crate::reading::word_at;
@@ -41,7 +40,7 @@ fn rule_8(
     if !output {
         return true;
     }
-    let l = exact_look(c, classes, bases, packs, word_at(image, next));
+    let l = look(c, classes, bases, packs, word_at(image, next));
     let f = words::facts_in(l.packed);
     !((l.number == 0) & f.input)
 }
@@ -90,16 +89,7 @@ fn rule_at(
     ) {
         return 0;
     }
-    let l = look(
-        c,
-        classes,
-        bases,
-        packs,
-        entries,
-        uppers,
-        lowers,
-        word_at(image, a),
-    );
+    let l = look(c, classes, bases, packs, word_at(image, a));
     let f = words::facts_in(l.packed);
     let target = l.value as usize;
     let next = a + 1;
@@ -119,8 +109,7 @@ fn rule_at(
     )
 }
 
-// The first address that breaks a rule, with its lowest rule; where there is none, a pass with the level at address 0. One look a word, and
-// one more where the word before it writes to a port.
+// The first address that breaks a rule, with its lowest rule; where there is none, a pass with the level at address 0.
 fn first_broken(
     c: Config,
     classes: &[u8],

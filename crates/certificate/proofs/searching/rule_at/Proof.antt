@@ -18,7 +18,7 @@ returns-2 : tie.Need-returns-2
 returns-2 c = sym (c .before .settled .ensures (true-is (c .before .settled .result) (c .if2 .taken)))
 
 look-requires : tie.Need-look-requires
-look-requires c κs = (c .before .before .before .before .before .before .before .before .before .before .before .before .before .pre .0, c .before .before .before .before .before .before .before .before .before .before .before .before .before .pre .1, c .before .before .before .before .before .before .before .before .before .before .before .before .before .pre .2)
+look-requires c κs = c .before .before .before .before .before .before .before .before .before .before .before .before .before .pre .0
 
 add-next : tie.Need-add-next
 add-next c = omega (arith, c .before .before .before .before .before .before .before .before .before .before .before .before .before .before .before .before .pre .3)
