@@ -1,18 +1,19 @@
 -- A machine's words, part by part. Assumes nothing.
-use mathlib.Core.Path.{_≡_, sym, _∙_}
-use mathlib.Core.Bool.{Bool, true, false}
-use mathlib.Core.List.{List, _++_}
-use Prim.Native.Nat.{ℕ, _+_}
+use mathlib.Core.Path.{_≡_, refl, sym, _∙_}
+use mathlib.Core.Bool.{Bool, true, false, _&&_, and-assoc, and-true}
+use mathlib.Core.List.{List, [], _∷_, _++_}
+use Prim.Native.Nat.{ℕ, _+_, _≤_}
 use native.Mathlib.Omega.{arith}
-use lib.ListN.{length, take, drop, replicate, length-drop}
-use lib.Seq.{length-take-le}
+use borrow.Author.Tests.{eq-eqb, ne-eqb, eqb-true, eqb-false, ltb-true, ltb-false}
+use lib.Bits.{bitOr, or-zero-l, or-add-and, and-le-r}
+use lib.Dec.{eqb, ltb}
+use lib.ListN.{length, take, drop, replicate, length-append, length-drop, take-append-drop}
+use lib.Seq.{take-all, length-take-le, drop-drop, drop-at, sets-eq}
+use Rattle.laws.specs.Choice.{pick, pick-yes, true-is}
+use Rattle.laws.specs.Test.{test, Holds, holds, tests, below, Below}
 use Rattle.state.specs.declared.Core.{Core}
-use Rattle.state.specs.declared.Machine.{Machine}
-use Rattle.laws.specs.Choice.{pick, true-is}
-use Rattle.laws.specs.Test.{test, holds}
-use Rattle.state.specs.State.{resetMachine}
-use Rattle.state.specs.Cores.{at}
-use Rattle.yam_c.specs.Flat.{stored, coreWords, machineWords, coreIn, stackIn, shaped, machineOf, updated}
+use Rattle.machine.specs.Joins.{joinFrom, joinOf}
+use Rattle.yam_c.specs.Flat.{stored, coreWords, machineWords, coreIn, stackIn, shaped, machineOf, outside, updated}
 use Rattle.yam_c.proofs.Storing.{stored-append, stored-all}
 
 -- core, stack and zeros, one after the other
@@ -23,31 +24,84 @@ whole f f₁ f₂ f₃ m stack h a b d =
     let e : 17 + length stack ≡ 80 = omega arith in
     sym (stored-append f 0 (coreWords m) (stack ++ replicate 20 0) ∙ stored-append (stored f 0 (coreWords m)) 17 stack (replicate 20 0) ∙ rw (e, ← a, ← b, ← d))
 
--- the cells of the stack, put into a new one
-pub stack-cells : (f : List ℕ) → length f ≡ 100 → stored (replicate 63 0) 0 (stackIn f) ≡ stackIn f
-stack-cells f h =
-    let e : length (take 63 (drop 17 f)) ≡ 63 = length-take-le 63 (drop 17 f) (omega (arith, length-drop 17 f)) in
-    stored-all (replicate 63 0) (stackIn f) (sym e)
+-- no bit is set in any word where every word is 0
 
-pub changed : (b : Bool) (m : Core) (stack f g : List ℕ) → b ≡ true → g ≡ stored f 0 (machineWords m stack) → g ≡ updated b m stack f
-unfolding updated pick
-changed b m stack f g e k = rw (e, k)
+zero-less : (n : ℕ) → eqb n 0 ≡ ltb n 1
+zero-less n = go (ltb n 1) refl
+  where
+    go : (p : Bool) → ltb n 1 ≡ p → eqb n 0 ≡ p
+    go true h = eq-eqb n 0 (omega (arith, ltb-true n 1 h))
+    go false h = ne-eqb n 0 (λ e. omega (arith, e, ltb-false n 1 h))
 
-pub unchanged : (b : Bool) (m : Core) (stack f : List ℕ) → b ≡ false → f ≡ updated b m stack f
-unfolding updated pick
-unchanged b m stack f e = rw e
+or-zero : (a b : ℕ) → eqb (bitOr a b) 0 ≡ (eqb a 0 && ltb b 1)
+or-zero a b = go (eqb a 0) refl
+  where
+    go : (p : Bool) → eqb a 0 ≡ p → eqb (bitOr a b) 0 ≡ (p && ltb b 1)
+    go true h = rw (eqb-true a 0 h, or-zero-l b) (zero-less b)
+    go false h = ne-eqb (bitOr a b) 0 (λ z. eqb-false a 0 h (omega (arith, z, or-add-and a b, and-le-r a b)))
 
--- the machine in a list of words, by its form
+join-from-zero : (a : ℕ) (xs : List ℕ) → eqb (joinFrom a xs) 0 ≡ (eqb a 0 && below 1 xs)
+unfolding joinFrom
+join-from-zero a [] = sym (and-true (eqb a 0))
+join-from-zero a (x ∷ xs) = join-from-zero (bitOr a x) xs ∙ rw (or-zero a x) (and-assoc (eqb a 0) (ltb x 1) (below 1 xs))
+
+-- the form of a list of a hundred words, by the joined bits of the last twenty
+pub shaped-by : (f : List ℕ) (r : ℕ) → length f ≡ 100 → r ≡ joinOf (take 20 (drop 80 f)) → eqb r 0 ≡ test (shaped f)
+shaped-by f r h e =
+    let rest : take 20 (drop 80 f) ≡ drop 80 f = take-all 20 (drop 80 f) (omega (arith, h, length-drop 80 f)) in
+    rw (e, rest, eq-eqb (length f) 100 h) (join-from-zero 0 (drop 80 f))
+
+pub unshaped : (f : List ℕ) → (length f ≡ 100 → ⊥) → false ≡ test (shaped f)
+unshaped f h = rw (ne-eqb (length f) 100 h)
+
+zeros : (xs : List ℕ) → Below 1 xs → xs ≡ replicate (length xs) 0
+zeros [] h = refl
+zeros (x ∷ xs) h =
+    let z : x ≡ 0 = omega (arith, h .0) in
+    rw (z, ← zeros xs (h .1))
+
+-- words 0 to 16, the return stack and the last twenty are the whole list
+module _ (f : List ℕ) (shape : Holds (shaped f)) where
+  head-length : length (take 17 f) ≡ 17
+  head-length = length-take-le 17 f (omega (arith, shape .0))
+
+  pub stack-length : length (stackIn f) ≡ 63
+  stack-length = length-take-le 63 (drop 17 f) (omega (arith, shape .0, length-drop 17 f))
+
+  tail-zeros : drop 80 f ≡ replicate 20 0
+  tail-zeros =
+      let n : length (drop 80 f) ≡ 20 = omega (arith, shape .0, length-drop 80 f) in
+      zeros (drop 80 f) (shape .1) ∙ rw n
+
+  in-parts : take 17 f ++ (stackIn f ++ drop 63 (drop 17 f)) ≡ f
+  in-parts = rw (take-append-drop 63 (drop 17 f)) (take-append-drop 17 f)
+
+  -- the core stored beside another return stack: these are all words of the machine
+  core-stored : (m : Core) (stack : List ℕ) → length stack ≡ 63 →
+      stored (take 17 f ++ (stack ++ drop 80 f)) 0 (coreWords m) ≡ stored f 0 (machineWords m stack)
+  unfolding stored machineWords
+  core-stored m stack h =
+      let n : 17 ≤ length (take 17 f ++ (stack ++ drop 80 f)) = omega (arith, length-append (take 17 f) (stack ++ drop 80 f), head-length) in
+      let k : length f ≡ length (machineWords m stack) = omega (arith, shape .0, h, length-append stack (replicate 20 0)) in
+      sets-eq (coreWords m) (take 17 f ++ (stack ++ drop 80 f)) 0 n ∙
+      (rw (drop-at (take 17 f) (stack ++ drop 80 f) 17 head-length, tail-zeros) (sym (stored-all f (machineWords m stack) k)))
+
+  -- a machine whose return stack was changed in place, its core stored where a step was done; where none was, the stack is as it was
+  pub placed : (b : Bool) (m : Core) (stack g : List ℕ) → length stack ≡ 63 → g ≡ take 17 f ++ (stack ++ drop 63 (drop 17 f)) → (b ≡ false → stack ≡ stackIn f) →
+      pick b (stored g 0 (coreWords m)) g ≡ updated b m stack f
+  unfolding updated pick
+  placed true m stack g h e k = rw (e, drop-drop 63 17 f) (core-stored m stack h)
+  placed false m stack g h e k = e ∙ rw (k refl) in-parts
+
+  pub machine-in : machineOf f ≡ record { core = coreIn f; stack = stackIn f }
+  unfolding machineOf
+  machine-in = pick-yes (test (shaped f)) (record { core = coreIn f; stack = stackIn f }) outside (tests (shaped f) shape)
+
+-- the form of a list of words, as it was tested
 module _ (f : List ℕ) (b : Bool) (e : b ≡ test (shaped f)) where
-  pub shaped-length : b ≡ true → length f ≡ 100
-  shaped-length h = holds (shaped f) (true-is (test (shaped f)) (sym e ∙ h)) .0
+  pub shaped-holds : b ≡ true → Holds (shaped f)
+  shaped-holds h = holds (shaped f) (true-is (test (shaped f)) (sym e ∙ h))
 
-  pub machine-in : (core : Core) (stack : List ℕ) → b ≡ true → core ≡ coreIn f → stack ≡ stackIn f →
-      _≡_ {A = Machine} (record { core = core; stack = stack }) (machineOf f)
+  pub machine-out : b ≡ false → machineOf f ≡ outside
   unfolding machineOf pick
-  machine-in core stack h k l = rw (sym e ∙ h, k, l)
-
-  pub machine-out : (r : Machine) → b ≡ false → r ≡ resetMachine →
-      _≡_ {A = Machine} (record { core = at (r .core) 8388608; stack = r .stack }) (machineOf f)
-  unfolding machineOf pick
-  machine-out r h k = rw (sym e ∙ h, k)
+  machine-out h = rw (sym e ∙ h)

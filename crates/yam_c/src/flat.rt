@@ -2,13 +2,21 @@
 ghost use mathlib.Core.Path.{_≡_};
 ghost use mathlib.Core.List.{[], _∷_};
 ghost use Prim.Native.Nat.{_+_, _<_, _≤_};
-ghost use lib.ListN.{length, getD, set, drop};
-ghost use Rattle.laws.specs.Test.{test, below};
-ghost use Rattle.yam_c.specs.Flat.{stored, low, high, wide, configWords, configOf, configIn, instructionWords, instructionIn, instructionOf, coreWords, coreIn, stackIn, shaped, machineWords, machineOf, updated};
+ghost use lib.ListN.{length, getD, set};
+ghost use Rattle.laws.specs.Choice.{pick};
+ghost use Rattle.laws.specs.Test.{test};
+ghost use Rattle.laws.specs.First.{first-failing};
+ghost use Rattle.state.specs.State.{env};
+ghost use Rattle.state.specs.Ranges.{guards};
+ghost use Rattle.machine.specs.Stepping.{machineState};
+ghost use Rattle.yam_c.specs.Flat.{stored, low, high, wide, configWords, configOf, configIn, instructionWords, instructionIn, instructionOf, coreWords, coreIn, shaped, machineWords, outside};
 use state::Core;
 use state::Machine;
 use words::Config;
 use words::Instruction;
+
+// How many words a machine has.
+const MACHINE_WORDS: usize = 100;
 
 // Word i, or 0 past the end.
 fn cell(flat: &[u32], i: usize) -> u32
@@ -182,28 +190,19 @@ pub fn instruction_into(i: Instruction, flat: &mut [u32])
     store(flat, 0, &words);
 }
 
-// Whether the words from a place on are all zero.
-fn zeros_from(flat: &[u32], from: usize) -> bool
-    ensures { λ r. ⌜ r ≡ below 1 (drop from (now (flat .entry))) ⌝ }
-{
-    let mut i = from;
-    while i < flat.len() {
-        if flat[i] != 0 {
-            return false;
-        }
-        i += 1;
-    }
-    true
-}
-
 // Whether the words have the form of a machine: a hundred, the last twenty zero.
-fn machine_shaped(flat: &[u32]) -> bool
+pub fn machine_shaped(flat: &[u32]) -> bool
     ensures { λ r. ⌜ r ≡ test (shaped (now (flat .entry))) ⌝ }
 {
-    (flat.len() == 100) & zeros_from(flat, 80)
+    if flat.len() != MACHINE_WORDS {
+        return false;
+    }
+    let above = machine::joined(&flat[80..100]);
+    above == 0
 }
 
-fn core_in(flat: &[u32]) -> Core
+// The core in the words of a machine.
+pub fn core_in(flat: &[u32]) -> Core
     ensures { λ r. ⌜ r ≡ coreIn (now (flat .entry)) ⌝ }
 {
     Core {
@@ -225,29 +224,33 @@ fn core_in(flat: &[u32]) -> Core
     }
 }
 
-fn stack_in(flat: &[u32]) -> [u32; 63]
-    requires { ⌜ length (now flat) ≡ 100 ⌝ }
-    ensures { λ r. ⌜ r ≡ stackIn (now (flat .entry)) ⌝ }
+// The number that refuses a list that does not have the form of a machine: it is a machine outside its ranges, so 1, 2, else 3.
+pub fn misshapen(
+    c: Config,
+    image: &[u32],
+    inputs: &[u32],
+    registers: &[u32],
+    memory: &[u32],
+    addresses: &[u32],
+    values: &[u32],
+) -> u32
+    ensures { λ r. ⌜ r ≡ first-failing (guards (env c (now (image .entry)) (now (inputs .entry))) (machineState outside (now (registers .entry)) (now (memory .entry)) (now (addresses .entry)) (now (values .entry)))) ⌝ }
 {
-    let mut stack = [0u32; 63];
-    store(&mut stack, 0, &flat[17..80]);
-    stack
-}
-
-// The machine in a hundred words; of another length, or with one of the last twenty not zero, one that is outside its ranges.
-pub fn machine_from(flat: &[u32]) -> Machine
-    ensures { λ r. ⌜ r ≡ machineOf (now (flat .entry)) ⌝ }
-{
-    if machine_shaped(flat) {
-        let core = core_in(flat);
-        let stack = stack_in(flat);
-        return Machine { core, stack };
-    }
     let m = Machine::reset();
     let mut core = m.core;
     core.pc = Machine::PC_LIMIT;
     let stack = m.stack;
-    Machine { core, stack }
+    machine::refusal(
+        c,
+        core,
+        image,
+        inputs,
+        &stack,
+        registers,
+        memory,
+        addresses,
+        values,
+    )
 }
 
 fn core_words(m: Core) -> [u32; 17]
@@ -285,11 +288,12 @@ pub fn machine_into(m: Machine, flat: &mut [u32])
     store(flat, 80, &zeros);
 }
 
-// Writes the machine where it changed.
-pub fn update(changed: bool, m: Machine, flat: &mut [u32])
-    ensures { λ _. ⌜ now (flat .exit) ≡ updated changed (m .core) (m .stack) (now (flat .entry)) ⌝ }
+// Writes the core where it changed: the return stack was changed in place.
+pub fn update(changed: bool, m: Core, flat: &mut [u32])
+    ensures { λ _. ⌜ now (flat .exit) ≡ pick changed (stored (now (flat .entry)) 0 (coreWords m)) (now (flat .entry)) ⌝ }
 {
     if changed {
-        machine_into(m, flat);
+        let core = core_words(m);
+        store(flat, 0, &core);
     }
 }

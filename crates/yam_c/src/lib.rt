@@ -2,7 +2,13 @@
 ghost use mathlib.Core.Path.{_≡_};
 ghost use Rattle.words.specs.Answers.{readingOf, writingOf};
 ghost use Rattle.certificate.specs.Answers.{answerOf};
-ghost use Rattle.yam_c.specs.Calls.{left, readLeft, readCall, writeLeft, writeCall, resetCall, moved, stepCall, runCall, checkLeft, checkCall, printed, textPrinted, listCall, assembled, assembleCall, filled, loadCall, storeCall};
+ghost use Rattle.laws.specs.Test.{Holds};
+ghost use Rattle.state.specs.State.{env};
+ghost use Rattle.state.specs.Step.{stepOf};
+ghost use Rattle.state.specs.Run as Run;
+ghost use Rattle.machine.specs.Stepping.{machineState, endOf};
+ghost use Rattle.yam_c.specs.Flat.{shaped, machineOf};
+ghost use Rattle.yam_c.specs.Calls.{left, readLeft, readCall, writeLeft, writeCall, resetCall, moved, stepLeft, stepCall, runLeft, runCall, checkLeft, checkCall, printed, textPrinted, listCall, assembled, assembleCall, filled, loadCall, storeCall};
 
 mod flat;
 
@@ -11,12 +17,15 @@ use flat::answer;
 use flat::answer_two;
 use flat::config_from;
 use flat::config_into;
+use flat::core_in;
 use flat::instruction_from;
 use flat::instruction_into;
-use flat::machine_from;
 use flat::machine_into;
+use flat::machine_shaped;
+use flat::misshapen;
 use flat::update;
 use state::Machine;
+use words::Config;
 use words::Reading;
 use words::Writing;
 
@@ -106,6 +115,39 @@ pub extern "C" fn yam_reset(machine: &mut [u32]) -> u32
     0
 }
 
+// One step of a machine in its hundred words, on the return stack that stands in them.
+fn step_in_place(
+    c: Config,
+    image: &[u32],
+    inputs: &[u32],
+    machine: &mut [u32],
+    registers: &mut [u32],
+    memory: &mut [u32],
+    addresses: &mut [u32],
+    values: &mut [u32],
+    answers: &mut [u64],
+) -> u32
+    requires { ⌜ Holds (shaped (now machine)) ⌝ }
+    ensures { λ n. ⌜ moved n (now (machine .exit)) (now (registers .exit)) (now (memory .exit)) (now (addresses .exit)) (now (values .exit)) (now (answers .exit)) ≡ stepLeft (stepOf (env c (now (image .entry)) (now (inputs .entry))) (machineState (machineOf (now (machine .entry))) (now (registers .entry)) (now (memory .entry)) (now (addresses .entry)) (now (values .entry)))) (now (machine .entry)) (now (answers .entry)) ⌝ }
+{
+    let m = core_in(machine);
+    let r = machine::step_lent(
+        c,
+        image,
+        inputs,
+        m,
+        &mut machine[17..80],
+        registers,
+        memory,
+        addresses,
+        values,
+    );
+    let next = r.core;
+    update(r.number == 0, next, machine);
+    answer(answers, r.cycles);
+    r.number
+}
+
 // One step: 1, 2, 3, 4 to 15.
 #[no_mangle]
 pub extern "C" fn yam_step(
@@ -122,11 +164,55 @@ pub extern "C" fn yam_step(
     ensures { λ n. ⌜ moved n (now (machine .exit)) (now (registers .exit)) (now (memory .exit)) (now (addresses .exit)) (now (values .exit)) (now (answers .exit)) ≡ stepCall (now (config .entry)) (now (image .entry)) (now (inputs .entry)) (now (machine .entry)) (now (registers .entry)) (now (memory .entry)) (now (addresses .entry)) (now (values .entry)) (now (answers .entry)) ⌝ }
 {
     let c = config_from(config);
-    let m = machine_from(machine);
-    let r = machine::step(c, image, inputs, m, registers, memory, addresses, values);
-    let next = r.machine;
-    update(r.number == 0, next, machine);
-    answer(answers, r.cycles);
+    if machine_shaped(machine) {
+        return step_in_place(
+            c,
+            image,
+            inputs,
+            machine,
+            registers,
+            memory,
+            addresses,
+            values,
+            answers,
+        );
+    }
+    answer(answers, 0);
+    misshapen(c, image, inputs, registers, memory, addresses, values)
+}
+
+// A run of a machine in its hundred words, on the return stack that stands in them.
+fn run_in_place(
+    c: Config,
+    image: &[u32],
+    inputs: &[u32],
+    machine: &mut [u32],
+    registers: &mut [u32],
+    memory: &mut [u32],
+    addresses: &mut [u32],
+    values: &mut [u32],
+    budget: u64,
+    answers: &mut [u64],
+) -> u32
+    requires { ⌜ Holds (shaped (now machine)) ⌝ }
+    ensures { λ n. ⌜ moved n (now (machine .exit)) (now (registers .exit)) (now (memory .exit)) (now (addresses .exit)) (now (values .exit)) (now (answers .exit)) ≡ runLeft (endOf (Run.runCall budget (env c (now (image .entry)) (now (inputs .entry))) (machineState (machineOf (now (machine .entry))) (now (registers .entry)) (now (memory .entry)) (now (addresses .entry)) (now (values .entry))))) (now (machine .entry)) (now (answers .entry)) ⌝ }
+{
+    let m = core_in(machine);
+    let r = machine::run_lent(
+        c,
+        image,
+        inputs,
+        m,
+        &mut machine[17..80],
+        registers,
+        memory,
+        addresses,
+        values,
+        budget,
+    );
+    let next = r.core;
+    update(0 < r.steps, next, machine);
+    answer_two(answers, r.steps, r.cycles);
     r.number
 }
 
@@ -147,22 +233,22 @@ pub extern "C" fn yam_run(
     ensures { λ n. ⌜ moved n (now (machine .exit)) (now (registers .exit)) (now (memory .exit)) (now (addresses .exit)) (now (values .exit)) (now (answers .exit)) ≡ runCall (now (config .entry)) (now (image .entry)) (now (inputs .entry)) (now (machine .entry)) (now (registers .entry)) (now (memory .entry)) (now (addresses .entry)) (now (values .entry)) budget (now (answers .entry)) ⌝ }
 {
     let c = config_from(config);
-    let m = machine_from(machine);
-    let r = machine::run(
-        c,
-        image,
-        inputs,
-        m,
-        registers,
-        memory,
-        addresses,
-        values,
-        budget,
-    );
-    let next = r.machine;
-    update(0 < r.steps, next, machine);
-    answer_two(answers, r.steps, r.cycles);
-    r.number
+    if machine_shaped(machine) {
+        return run_in_place(
+            c,
+            image,
+            inputs,
+            machine,
+            registers,
+            memory,
+            addresses,
+            values,
+            budget,
+            answers,
+        );
+    }
+    answer_two(answers, 0, 0);
+    misshapen(c, image, inputs, registers, memory, addresses, values)
 }
 
 // The check of a certificate: 1, 2, 17.

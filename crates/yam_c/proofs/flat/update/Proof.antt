@@ -1,14 +1,20 @@
 -- `yam_c::flat::update` meets its contract. Assumes nothing.
-use Rattle.yam_c.proofs.Machines.{changed, unchanged}
+use Rattle.laws.specs.Choice.{pick}
 use borrow.Author.Needs.{needs}
 use Rattle.yam_c.proofs.flat.update.Statement.{statement}
 use Rattle.yam_c.proofs.flat.update.Tie as tie
+use Rattle.yam_c.proofs.flat.core_words.Reads as core-words-reads
+use Rattle.yam_c.proofs.flat.store.Reads as store-reads
 
 returns : tie.Need-returns
-returns c = changed _ _ _ _ _ (c .before .before .before .before .if1 .taken) (c .before .before .machine-into .ensures)
+unfolding pick
+returns c = rw (c .before .before .before .before .before .before .if1 .taken, c .before .before .store .ensures, c .before .before .before .before .before .core-words .ensures)
 
 returns-2 : tie.Need-returns-2
-returns-2 c = unchanged _ _ _ _ (c .if1 .left)
+unfolding pick
+returns-2 c = rw (c .if1 .left)
 
 pub update-spec : {M : Type 1} → statement M
-update-spec = tie.close (tie.spec (λ c κs. search needs) (λ c. search needs) returns returns-2)
+update-spec =
+    tie.close
+    (tie.spec (λ c κs. search needs) (λ c. search needs) (λ c κs. search needs) (λ c. search needs) returns returns-2)
