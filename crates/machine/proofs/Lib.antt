@@ -1,3 +1,4 @@
+pub mod Joins
 pub mod Lookup
 pub mod Cached
 pub mod Claims

@@ -1,5 +1,5 @@
--- The bits that are set in any number of a list: by them the code tests a whole memory at once. It serves the code alone: no promise of a public call
--- cites it, and the laws of proofs/memories tie it to `below`.
+-- The bits that are set in any number of a list: by them the code tests a whole memory at once. It serves the code alone: what `step` and `run` promise does
+-- not cite it, and the laws of proofs/Joins tie it to `below`.
 use Prim.Native.Nat.{ℕ}
 use mathlib.Core.List.{List, [], _∷_}
 use lib.Bits.{bitOr}

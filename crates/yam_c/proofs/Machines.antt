@@ -1,18 +1,18 @@
 -- A machine's words, part by part. Assumes nothing.
 use mathlib.Core.Path.{_≡_, refl, sym, _∙_}
-use mathlib.Core.Bool.{Bool, true, false, _&&_, and-assoc, and-true}
+use mathlib.Core.Bool.{Bool, true, false}
 use mathlib.Core.List.{List, [], _∷_, _++_}
 use Prim.Native.Nat.{ℕ, _+_, _≤_}
 use native.Mathlib.Omega.{arith}
-use borrow.Author.Tests.{eq-eqb, ne-eqb, eqb-true, eqb-false, ltb-true, ltb-false}
-use lib.Bits.{bitOr, or-zero-l, or-add-and, and-le-r}
-use lib.Dec.{eqb, ltb}
+use borrow.Author.Tests.{eq-eqb, ne-eqb}
+use lib.Dec.{eqb}
 use lib.ListN.{length, take, drop, replicate, length-append, length-drop, take-append-drop}
 use lib.Seq.{take-all, length-take-le, drop-drop, drop-at, sets-eq}
 use Rattle.laws.specs.Choice.{pick, pick-yes, true-is}
-use Rattle.laws.specs.Test.{test, Holds, holds, tests, below, Below}
+use Rattle.laws.specs.Test.{test, Holds, holds, tests, Below}
 use Rattle.state.specs.declared.Core.{Core}
-use Rattle.machine.specs.Joins.{joinFrom, joinOf}
+use Rattle.machine.specs.Joins.{joinOf}
+use Rattle.machine.proofs.Joins.{join-zero}
 use Rattle.yam_c.specs.Flat.{stored, coreWords, machineWords, coreIn, stackIn, shaped, machineOf, outside, updated}
 use Rattle.yam_c.proofs.Storing.{stored-append, stored-all}
 
@@ -24,32 +24,11 @@ whole f f₁ f₂ f₃ m stack h a b d =
     let e : 17 + length stack ≡ 80 = omega arith in
     sym (stored-append f 0 (coreWords m) (stack ++ replicate 20 0) ∙ stored-append (stored f 0 (coreWords m)) 17 stack (replicate 20 0) ∙ rw (e, ← a, ← b, ← d))
 
--- no bit is set in any word where every word is 0
-
-zero-less : (n : ℕ) → eqb n 0 ≡ ltb n 1
-zero-less n = go (ltb n 1) refl
-  where
-    go : (p : Bool) → ltb n 1 ≡ p → eqb n 0 ≡ p
-    go true h = eq-eqb n 0 (omega (arith, ltb-true n 1 h))
-    go false h = ne-eqb n 0 (λ e. omega (arith, e, ltb-false n 1 h))
-
-or-zero : (a b : ℕ) → eqb (bitOr a b) 0 ≡ (eqb a 0 && ltb b 1)
-or-zero a b = go (eqb a 0) refl
-  where
-    go : (p : Bool) → eqb a 0 ≡ p → eqb (bitOr a b) 0 ≡ (p && ltb b 1)
-    go true h = rw (eqb-true a 0 h, or-zero-l b) (zero-less b)
-    go false h = ne-eqb (bitOr a b) 0 (λ z. eqb-false a 0 h (omega (arith, z, or-add-and a b, and-le-r a b)))
-
-join-from-zero : (a : ℕ) (xs : List ℕ) → eqb (joinFrom a xs) 0 ≡ (eqb a 0 && below 1 xs)
-unfolding joinFrom
-join-from-zero a [] = sym (and-true (eqb a 0))
-join-from-zero a (x ∷ xs) = join-from-zero (bitOr a x) xs ∙ rw (or-zero a x) (and-assoc (eqb a 0) (ltb x 1) (below 1 xs))
-
 -- the form of a list of a hundred words, by the joined bits of the last twenty
 pub shaped-by : (f : List ℕ) (r : ℕ) → length f ≡ 100 → r ≡ joinOf (take 20 (drop 80 f)) → eqb r 0 ≡ test (shaped f)
 shaped-by f r h e =
     let rest : take 20 (drop 80 f) ≡ drop 80 f = take-all 20 (drop 80 f) (omega (arith, h, length-drop 80 f)) in
-    rw (e, rest, eq-eqb (length f) 100 h) (join-from-zero 0 (drop 80 f))
+    rw (e, rest, eq-eqb (length f) 100 h) (join-zero (drop 80 f))
 
 pub unshaped : (f : List ℕ) → (length f ≡ 100 → ⊥) → false ≡ test (shaped f)
 unshaped f h = rw (ne-eqb (length f) 100 h)

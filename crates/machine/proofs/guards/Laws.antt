@@ -1,6 +1,6 @@
 -- The cells of a record and its memories, tested by their joined bits and part by part. Assumes nothing.
 use Prim.Native.Nat.{ℕ, zero, suc, _+_, _-_, _^_, _≤_, _<_}
-use mathlib.Core.Path.{_≡_, refl, sym, ap, _∙_}
+use mathlib.Core.Path.{_≡_, refl, sym, _∙_}
 use mathlib.Core.Bool.{Bool, true, false, not, _&&_, and-assoc, and-true, and-false}
 use mathlib.Core.List.{List, [], _∷_}
 use native.Mathlib.Nat.{lt-of-lt-of-le}
@@ -12,7 +12,7 @@ use lib.ListN.{length, getD, take, drop, drop-of-length-le, length-drop}
 use lib.Seq.{take-all}
 use Rattle.laws.specs.Test.{below}
 use Rattle.machine.specs.Joins.{joinOf}
-use Rattle.machine.proofs.memories.Laws.{or-below, join-below, join-zero}
+use Rattle.machine.proofs.Joins.{or-below, join-below, join-zero}
 
 -- what is below a lower bound is below a higher one
 cell-less : (b x : ℕ) (p q : Bool) → 1 ≤ b → (p && q) ≡ q → ((ltb x b && p) && (ltb x 1 && q)) ≡ (ltb x 1 && q)

@@ -1,11 +1,11 @@
 -- `machine::memories::joined` meets its contract. Assumes nothing.
 use native.Mathlib.Omega.{arith}
 use borrow.Author.Needs.{needs}
-use mathlib.Core.Path.{_≡_, refl, sym, _∙_}
+use mathlib.Core.Path.{_≡_, refl, _∙_}
 use Prim.Native.Nat.{_-_}
 use lib.ListN.{length, drop}
 use Rattle.machine.specs.Joins.{joinFrom, joinOf}
-use Rattle.machine.proofs.memories.Laws.{join-further, join-done}
+use Rattle.machine.proofs.Joins.{join-further, join-done}
 use Rattle.machine.proofs.memories.joined.Statement.{statement}
 use Rattle.machine.proofs.memories.joined.Tie as tie
 
