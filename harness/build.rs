@@ -3,23 +3,41 @@
 use std::path::{Path, PathBuf};
 use std::process::Command;
 
+/// Each is compiled on its own, as a C program's files are.
+const SOURCES: [&str; 8] = [
+    "plain.c",
+    "plain_kinds.c",
+    "plain_words.c",
+    "plain_ranges.c",
+    "plain_check.c",
+    "plain_tools.c",
+    "plain_assemble.c",
+    "plain_calls.c",
+];
+
 fn run(command: &mut Command) {
     let status = command.status().unwrap_or_else(|e| panic!("{command:?}: {e}"));
     assert!(status.success(), "{command:?} failed");
 }
 
-fn compile_plain(out: &Path, with_calls: bool) {
-    let mut sources = vec!["plain.c", "plain_kinds.c", "plain_words.c", "plain_tools.c", "plain_assemble.c"];
-    if with_calls {
-        sources.push("plain_calls.c");
-    }
+fn compile(out: &Path, source: &str, object: &str, more: &[&str]) -> PathBuf {
+    let object = out.join(object);
+    run(Command::new("cc")
+        .args(["-O2", "-Wall", "-Wextra", "-c"])
+        .args(more)
+        .arg("-o")
+        .arg(&object)
+        .arg(Path::new("plain").join(source)));
+    object
+}
+
+/// With `in_place` the plain calls have the library's names as well.
+fn compile_plain(out: &Path, in_place: bool) {
     let archive = out.join("libplain.a");
     let _ = std::fs::remove_file(&archive);
-    let mut objects: Vec<PathBuf> = Vec::new();
-    for source in sources {
-        let object = out.join(source).with_extension("o");
-        run(Command::new("cc").args(["-O2", "-Wall", "-Wextra", "-c", "-o"]).arg(&object).arg(Path::new("plain").join(source)));
-        objects.push(object);
+    let mut objects: Vec<PathBuf> = SOURCES.iter().map(|source| compile(out, source, &source.replace(".c", ".o"), &[])).collect();
+    if in_place {
+        objects.push(compile(out, "plain_calls.c", "plain_in_place.o", &["-DIN_PLACE"]));
     }
     run(Command::new("ar").arg("rcs").arg(&archive).args(&objects));
     println!("cargo:rustc-link-search=native={}", out.display());

@@ -1,38 +1,9 @@
-/* A plain interpreter of the YAM core: validates once, then decodes each word as it comes. */
+/* A plain interpreter of the YAM core, which decodes each word as it comes. */
 #include "plain.h"
 #include "plain_kinds.h"
-#include <string.h>
 
 #define KEEP_FLAGS (1u << 26)
 #define TARGET_BITS 0x7fffffu
-
-void plain_reset(struct plain_machine *m) {
-    memset(m, 0, sizeof *m);
-    m->imask = m->saved = 15;
-}
-
-static uint32_t stack_limit(const struct plain_config *c) { return c->pc_stack == 1 ? 1 : c->pc_stack - 1; }
-
-static int fits(const uint32_t *cells, size_t count, uint32_t mask) {
-    uint32_t all = 0;
-    for (size_t i = 0; i < count; i++) all |= cells[i];
-    return (all & ~mask) == 0;
-}
-
-/* 3: the record's ranges and the cells' width. */
-static int in_ranges(const struct plain_config *c, const struct plain_machine *m, const uint32_t *registers,
-                     const uint32_t *memory, size_t inputs_len, size_t log_len, uint32_t mask) {
-    uint32_t limit = stack_limit(c);
-    if (m->pc >= 1u << 23 || m->wp % 16 != 0 || m->wp > c->rm_size - c->reg_size) return 0;
-    if (m->rx >= c->reg_size || m->ry >= c->reg_size) return 0;
-    if (m->n > 1 || m->z > 1 || m->mode > 1 || m->posted > 1 || m->imask > 15 || m->saved > 15) return 0;
-    if (m->spr7 > (c->reg_width == 32 ? 0 : mask) || m->depth > limit) return 0;
-    for (uint32_t i = 0; i < 63; i++)
-        if (m->stack[i] > (i < m->depth ? c->im_size : 0)) return 0;
-    if (m->posted_address > (m->posted ? mask : 0)) return 0;
-    if (m->input_position > inputs_len || m->log_position > log_len) return 0;
-    return fits(registers, c->rm_size, mask) && fits(memory, c->dm_size, mask);
-}
 
 static uint32_t log2_of(uint32_t size) { return size == 0 ? 0 : 31 - (uint32_t)__builtin_clz(size); }
 
@@ -98,20 +69,14 @@ static inline uint32_t clz16(uint32_t half) { return half == 0 ? 16 : (uint32_t)
 void plain_run(const struct plain_config *c, const uint32_t *image, const uint32_t *inputs, size_t inputs_len,
                struct plain_machine *m, uint32_t *registers, uint32_t *memory, uint32_t *log_a, uint32_t *log_v,
                size_t log_len, uint64_t budget, struct plain_answer *out) {
-    out->number = plain_config_number(c);
-    out->steps = out->cycles = 0;
-    if (out->number != 0) return;
     const uint32_t width = c->reg_width, mask = 0xffffffffu >> (32 - width), msb = 1u << (width - 1);
-    if (!in_ranges(c, m, registers, memory, inputs_len, log_len, mask)) { out->number = 3; return; }
-    if (budget > 1000000) { out->number = 16; return; }
-
-    const uint32_t im_size = c->im_size, dm_size = c->dm_size, level = c->alu_level, limit = stack_limit(c);
+    const uint32_t im_size = c->im_size, dm_size = c->dm_size, level = c->alu_level, limit = plain_stack_limit(c);
     const uint32_t high = ~(c->reg_size - 1) & 0x7f; /* the bits of a register number that must be zero */
     const uint32_t one_bad = high << 16, two_bad = high << 16 | 0xff80 | high;
     const uint32_t shifted = width == 32 ? 16 : 0, low = width == 32 ? 0xffff : 0; /* the shifted immediate */
     const uint32_t banks = c->rm_size > c->reg_size, read_wait = c->dm_pipe != 0;
     uint32_t pc = m->pc, n = m->n, z = m->z, posted = m->posted, posted_address = m->posted_address, number = 0;
-    uint64_t steps = 0, waits = 0, input_at = m->input_position, log_at = m->log_position;
+    uint64_t steps = 0, waits = 0, input_at = plain_wide(m->input_position), log_at = plain_wide(m->log_position);
     uint32_t mode = m->mode, *r = registers + m->wp;
 
     while (steps < budget) {
@@ -329,6 +294,7 @@ void plain_run(const struct plain_config *c, const uint32_t *image, const uint32
         break;
     }
     m->pc = pc; m->n = n; m->z = z; m->posted = posted; m->posted_address = posted_address;
-    m->input_position = input_at; m->log_position = log_at;
+    m->input_position[0] = (uint32_t)input_at; m->input_position[1] = (uint32_t)(input_at >> 32);
+    m->log_position[0] = (uint32_t)log_at; m->log_position[1] = (uint32_t)(log_at >> 32);
     out->number = number; out->steps = steps; out->cycles = 2 * steps + waits;
 }

@@ -385,7 +385,6 @@ uint32_t plain_assemble(const struct plain_config *c, const uint8_t *text, size_
     struct source s;
     uint64_t count = 0;
     answers[0] = answers[1] = 0;
-    if (plain_config_number(c) != 0) return 1;
     s.text = text;
     s.end = text + text_len;
     s.off = (c->alu_mult ? 0 : MULT) | (c->alu_level >= 1 ? 0 : LEVEL_1) | (c->alu_level >= 2 ? 0 : LEVEL_2) |

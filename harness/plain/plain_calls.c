@@ -1,14 +1,21 @@
-/* The calls of the library's C interface over the plain programs: stands in the library's place to try the harness itself. With the
-   header included, the compiler compares its declarations with these definitions. */
-#include "../../include/yam.h"
+/* The calls of the library's C interface over the plain programs, under names of their own: what the library is timed beside. With
+   IN_PLACE they have the library's names and stand in its place, to try the harness itself; the header is included then, so that the
+   compiler compares its declarations with these definitions. */
 #include "plain.h"
 #include "plain_kinds.h"
 #include <string.h>
+#include "../../include/yam_rows.h"
+#ifdef IN_PLACE
+#include "../../include/yam.h"
+#define CALL(name) yam_##name
+#else
+#define CALL(name) flat_##name
+#endif
 
-static uint32_t config_of(const uint32_t *words, size_t length, struct plain_config *c) {
-    if (length != 19) return 1;
-    memcpy(c, words, 19 * sizeof *words);
-    return plain_config_number(c);
+/* The configuration as it stands, or null where 1 refuses it. */
+static const struct plain_config *lawful(const uint32_t *words, size_t length) {
+    const struct plain_config *c = (const struct plain_config *)words;
+    return length == 19 && plain_config_number(c) == 0 ? c : NULL;
 }
 
 /* As many answers as there is room for. */
@@ -17,14 +24,12 @@ static void answer(uint64_t *answers, size_t length, size_t count, uint64_t firs
     if (length > 1 && count > 1) answers[1] = second;
 }
 
-uint32_t yam_read(const uint32_t *config, size_t config_length, uint32_t word, uint32_t *instruction, size_t instruction_length) {
-    struct plain_config c;
-    uint32_t parts[6];
-    if (config_of(config, config_length, &c)) return 1;
-    const uint32_t number = plain_read(&c, word, parts);
-    if (number == 0 && instruction_length != 6) return 7;
-    if (number == 0) memcpy(instruction, parts, sizeof parts);
-    return number;
+uint32_t CALL(read)(const uint32_t *config, size_t config_length, uint32_t word, uint32_t *instruction, size_t instruction_length) {
+    const struct plain_config *c = lawful(config, config_length);
+    if (!c) return 1;
+    if (instruction_length == 6) return plain_read(c, word, instruction);
+    const uint32_t number = plain_verdict(c, word);
+    return number ? number : 7;
 }
 
 #define ROWS YAM_ROW_COUNT
@@ -62,64 +67,39 @@ static uint32_t write_parts(const struct plain_config *c, const uint32_t *p, uin
     return plain_read(c, *word, back) == 0 && memcmp(back, p, sizeof back) == 0 ? 0 : 7;
 }
 
-uint32_t yam_write(const uint32_t *config, size_t config_length, const uint32_t *instruction, size_t instruction_length,
+uint32_t CALL(write)(const uint32_t *config, size_t config_length, const uint32_t *instruction, size_t instruction_length,
                    uint64_t *answers, size_t answers_length) {
-    struct plain_config c;
-    uint32_t word = 0, number = config_of(config, config_length, &c);
-    if (number == 0) number = instruction_length == 6 ? write_parts(&c, instruction, &word) : 7;
+    const struct plain_config *c = lawful(config, config_length);
+    uint32_t word = 0;
+    const uint32_t number = !c ? 1 : instruction_length == 6 ? write_parts(c, instruction, &word) : 7;
     answer(answers, answers_length, 1, number ? 0 : word, 0);
     return number;
 }
 
-static void machine_to_words(const struct plain_machine *m, uint32_t *w) {
-    memset(w, 0, 100 * sizeof *w);
-    memcpy(w, m, 13 * sizeof *w);
-    w[13] = (uint32_t)m->input_position;
-    w[14] = (uint32_t)(m->input_position >> 32);
-    w[15] = (uint32_t)m->log_position;
-    w[16] = (uint32_t)(m->log_position >> 32);
-    memcpy(w + 17, m->stack, sizeof m->stack);
-}
-
-static uint32_t machine_of(const uint32_t *w, size_t length, struct plain_machine *m) {
-    uint32_t rest = 0;
-    if (length != 100) return 3;
-    for (int i = 80; i < 100; i++) rest |= w[i];
-    memcpy(m, w, 13 * sizeof *w);
-    m->input_position = w[13] | (uint64_t)w[14] << 32;
-    m->log_position = w[15] | (uint64_t)w[16] << 32;
-    memcpy(m->stack, w + 17, sizeof m->stack);
-    return rest ? 3 : 0;
-}
-
-uint32_t yam_reset(uint32_t *machine, size_t machine_length) {
-    struct plain_machine m;
+uint32_t CALL(reset)(uint32_t *machine, size_t machine_length) {
     if (machine_length != 100) return 3;
-    plain_reset(&m);
-    machine_to_words(&m, machine);
+    memset(machine, 0, 100 * sizeof *machine);
+    machine[8] = machine[9] = 15;
     return 0;
 }
 
+/* 1, 2, 3, 16, then the steps. The record is lent as it stands. */
 static void run_lists(const uint32_t *config, size_t config_length, const uint32_t *image, size_t image_length, const uint32_t *inputs,
                       size_t inputs_length, uint32_t *machine, size_t machine_length, uint32_t *registers, size_t registers_length,
                       uint32_t *memory, size_t memory_length, uint32_t *log_a, size_t log_a_length, uint32_t *log_v,
                       size_t log_v_length, uint64_t budget, struct plain_answer *out) {
-    struct plain_config c;
-    struct plain_machine m;
-    memset(out, 0, sizeof *out);
-    out->number = config_of(config, config_length, &c);
-    if (out->number != 0) return;
-    if (image_length != c.im_size || registers_length != c.rm_size || memory_length != c.dm_size || log_a_length != log_v_length) {
+    const struct plain_config *c = lawful(config, config_length);
+    struct plain_machine *m = (struct plain_machine *)machine;
+    out->steps = out->cycles = 0;
+    if (!c) out->number = 1;
+    else if (image_length != c->im_size || registers_length != c->rm_size || memory_length != c->dm_size || log_a_length != log_v_length)
         out->number = 2;
-        return;
-    }
-    out->number = machine_of(machine, machine_length, &m);
-    if (out->number != 0) return;
-    plain_run(&c, image, inputs, inputs_length, &m, registers, memory, log_a, log_v, log_a_length, budget, out);
-    if (out->number != 3 && out->number != 16) machine_to_words(&m, machine);
+    else if (machine_length != 100 || plain_ranges_number(c, m, registers, memory, inputs_length, log_a_length) != 0) out->number = 3;
+    else if (budget > 1000000) out->number = 16;
+    else plain_run(c, image, inputs, inputs_length, m, registers, memory, log_a, log_v, log_a_length, budget, out);
 }
 
-uint32_t yam_step(const uint32_t *config, size_t config_length, const uint32_t *image, size_t image_length, const uint32_t *inputs,
+uint32_t CALL(step)(const uint32_t *config, size_t config_length, const uint32_t *image, size_t image_length, const uint32_t *inputs,
                   size_t inputs_length, uint32_t *machine, size_t machine_length, uint32_t *registers, size_t registers_length,
                   uint32_t *memory, size_t memory_length, uint32_t *log_a, size_t log_a_length, uint32_t *log_v, size_t log_v_length,
                   uint64_t *answers, size_t answers_length) {
@@ -130,7 +110,7 @@ uint32_t yam_step(const uint32_t *config, size_t config_length, const uint32_t *
     return out.number;
 }
 
-uint32_t yam_run(const uint32_t *config, size_t config_length, const uint32_t *image, size_t image_length, const uint32_t *inputs,
+uint32_t CALL(run)(const uint32_t *config, size_t config_length, const uint32_t *image, size_t image_length, const uint32_t *inputs,
                  size_t inputs_length, uint32_t *machine, size_t machine_length, uint32_t *registers, size_t registers_length,
                  uint32_t *memory, size_t memory_length, uint32_t *log_a, size_t log_a_length, uint32_t *log_v, size_t log_v_length,
                  uint64_t budget, uint64_t *answers, size_t answers_length) {
@@ -141,22 +121,21 @@ uint32_t yam_run(const uint32_t *config, size_t config_length, const uint32_t *i
     return out.number;
 }
 
-uint32_t yam_check(const uint32_t *config, size_t config_length, const uint32_t *image, size_t image_length, const uint8_t *sheet,
+uint32_t CALL(check)(const uint32_t *config, size_t config_length, const uint32_t *image, size_t image_length, const uint8_t *sheet,
                    size_t sheet_length, uint64_t *answers, size_t answers_length) {
-    struct plain_config c;
+    const struct plain_config *c = lawful(config, config_length);
     uint64_t two[2] = {0, 0};
-    uint32_t number = config_of(config, config_length, &c);
-    if (number == 0) number = image_length != c.im_size || sheet_length != c.im_size ? 2 : plain_check(&c, image, sheet, two);
+    const uint32_t number =
+        !c ? 1 : image_length != c->im_size || sheet_length != c->im_size ? 2 : plain_check(c, image, sheet, two);
     answer(answers, answers_length, 2, two[0], two[1]);
     return number;
 }
 
-uint32_t yam_text(const uint32_t *config, size_t config_length, uint32_t word, uint8_t *page, size_t page_length, uint64_t place,
+uint32_t CALL(text)(const uint32_t *config, size_t config_length, uint32_t word, uint8_t *page, size_t page_length, uint64_t place,
                   uint64_t *answers, size_t answers_length) {
-    struct plain_config c;
+    const struct plain_config *c = lawful(config, config_length);
     uint8_t text[32];
-    uint32_t number = config_of(config, config_length, &c);
-    if (number == 0) number = plain_verdict(&c, word);
+    uint32_t number = c ? plain_verdict(c, word) : 1;
     if (number == 0) {
         const size_t length = plain_text(word, text);
         if (place > page_length || length > page_length - place) {
@@ -170,17 +149,16 @@ uint32_t yam_text(const uint32_t *config, size_t config_length, uint32_t word, u
     return number;
 }
 
-uint32_t yam_list(const uint32_t *config, size_t config_length, const uint32_t *image, size_t image_length, uint64_t first,
+uint32_t CALL(list)(const uint32_t *config, size_t config_length, const uint32_t *image, size_t image_length, uint64_t first,
                   uint8_t *page, size_t page_length, uint64_t place, uint64_t *answers, size_t answers_length) {
-    struct plain_config c;
+    const struct plain_config *c = lawful(config, config_length);
     uint64_t two[2] = {place, first};
-    uint32_t number = config_of(config, config_length, &c);
-    if (number == 0) number = image_length != c.im_size ? 2 : plain_list(&c, image, first, page, page_length, place, two);
+    const uint32_t number = !c ? 1 : image_length != c->im_size ? 2 : plain_list(c, image, first, page, page_length, place, two);
     answer(answers, answers_length, 2, two[0], two[1]);
     return number;
 }
 
-uint32_t yam_load(const uint8_t *file, size_t file_length, uint32_t *config, size_t config_length, uint32_t *image, size_t image_length) {
+uint32_t CALL(load)(const uint8_t *file, size_t file_length, uint32_t *config, size_t config_length, uint32_t *image, size_t image_length) {
     struct plain_config c;
     if (config_length != 19) return 1;
     const uint32_t number = plain_load(file, file_length, &c, image, image_length);
@@ -197,11 +175,11 @@ static void put_block(uint8_t *block, uint32_t number, const uint32_t *words, si
     }
 }
 
-uint32_t yam_store(const uint32_t *config, size_t config_length, const uint32_t *image, size_t image_length, uint8_t *file,
+uint32_t CALL(store)(const uint32_t *config, size_t config_length, const uint32_t *image, size_t image_length, uint8_t *file,
                    size_t file_length) {
-    struct plain_config c;
-    if (config_of(config, config_length, &c)) return 1;
-    if (image_length != c.im_size) return 2;
+    const struct plain_config *c = lawful(config, config_length);
+    if (!c) return 1;
+    if (image_length != c->im_size) return 2;
     const size_t blocks = (image_length + 125) / 126;
     if (file_length != 512 * (1 + blocks)) return 19;
     put_block(file, 0, config, 14);
@@ -212,12 +190,11 @@ uint32_t yam_store(const uint32_t *config, size_t config_length, const uint32_t 
     return 0;
 }
 
-uint32_t yam_assemble(const uint32_t *config, size_t config_length, const uint8_t *text, size_t text_length, uint32_t *words,
+uint32_t CALL(assemble)(const uint32_t *config, size_t config_length, const uint8_t *text, size_t text_length, uint32_t *words,
                       size_t words_length, uint64_t *answers, size_t answers_length) {
-    struct plain_config c;
+    const struct plain_config *c = lawful(config, config_length);
     uint64_t two[2] = {0, 0};
-    uint32_t number = config_of(config, config_length, &c);
-    if (number == 0) number = plain_assemble(&c, text, text_length, words, words_length, two);
+    const uint32_t number = c ? plain_assemble(c, text, text_length, words, words_length, two) : 1;
     answer(answers, answers_length, 2, two[0], two[1]);
     return number;
 }

@@ -1,4 +1,4 @@
-/* Reading a word, the check of a sheet, the text of a word, the listing and the loader, plainly. */
+/* Reading a word, the text of a word, the listing and the loader, plainly. */
 #include "plain.h"
 #include "plain_kinds.h"
 #include <string.h>
@@ -24,9 +24,7 @@ uint32_t plain_row(uint32_t w) {
 }
 
 uint32_t plain_read(const struct plain_config *c, uint32_t w, uint32_t parts[6]) {
-    uint32_t number = plain_config_number(c);
-    if (number != 0) return number;
-    number = plain_verdict(c, w);
+    const uint32_t number = plain_verdict(c, w);
     if (number != 0) return number;
     const uint32_t kind = plain_kind_of(w), d = w >> 16 & 0x7f, s = w & 0x7f, code = w >> 8 & 0xff;
     parts[0] = plain_row(w);
@@ -49,61 +47,6 @@ uint32_t plain_read(const struct plain_config *c, uint32_t w, uint32_t parts[6])
     case MOV_R: case MOV_FROM_R: case MOV_TO_R: case PORT_READ: case PORT_R: parts[3] = s; break;
     default: parts[5] = w & 0xffff;
     }
-    return 0;
-}
-
-/* ---- the sheet ---- */
-
-static int reads_port(const struct plain_config *c, uint32_t w) { return plain_kind_of(w) == PORT_READ && plain_verdict(c, w) == 0; }
-
-static int in_special_mode_allowed(uint32_t w) {
-    const uint32_t s = w & 0x7f;
-    return w == 0xf0040000 || (plain_kind_of(w) == MOV_R && (s <= 3 || s == 7));
-}
-
-/* The lowest rule that the used address `at` breaks, or 0. */
-static uint32_t broken_rule(const struct plain_config *c, const uint32_t *image, const uint8_t *sheet, uint32_t at, uint32_t limit) {
-    const uint8_t here = sheet[at];
-    if (at == 0 && (here & 0xc0)) return 1;
-    if (here == 255) return 0;
-    if ((here & 0x3f) > limit) return 2;
-    const uint32_t w = image[at], kind = plain_kind_of(w);
-    if (plain_verdict(c, w) != 0) return 3;
-    if (kind == JMP_R || kind == JMP_R_BIO || kind == JSR_R || kind == JSRWP || w == 0xf0010000) return 3;
-    uint32_t after[2], count = 0, call = 0;
-    const uint32_t target = w & 0x7fffff;
-    const int returns = kind == RLD || w == 0xf0000000;
-    if (kind == JSR) { after[count++] = target; call = 1; }
-    if (kind == JMP || kind == JMP_IF || kind == JMP_BIO) after[count++] = target;
-    if (!returns && kind != JMP) after[count++] = at + 1;
-    for (uint32_t i = 0; i < count; i++)
-        if (after[i] >= c->im_size || sheet[after[i]] == 255) return 4;
-    if (returns && !(here & 0x40)) return 5;
-    for (uint32_t i = 0; i < count; i++)
-        if ((sheet[after[i]] & 0x40) != (call && i == 0 ? 0x40 : here & 0x40)) return 5;
-    for (uint32_t i = 0; i < count; i++)
-        if ((sheet[after[i]] & 0x3f) + (call && i == 0) > (here & 0x3f)) return 6;
-    if ((here & 0x80) && !in_special_mode_allowed(w)) return 7;
-    const uint32_t mode = w == 0xf0050000 ? 0x80 : w == 0xf0040000 ? 0 : here & 0x80;
-    for (uint32_t i = 0; i < count; i++)
-        if ((sheet[after[i]] & 0x80u) != mode) return 7;
-    const int writes = (kind >= PORT_R && kind <= PORT_H) || (kind == PORT_READ && (w & 0x8000));
-    return writes && reads_port(c, image[at + 1]) ? 8 : 0;
-}
-
-uint32_t plain_check(const struct plain_config *c, const uint32_t *image, const uint8_t *sheet, uint64_t answers[2]) {
-    answers[0] = answers[1] = 0;
-    if (plain_config_number(c) != 0) return 1;
-    const uint32_t limit = c->pc_stack == 1 ? 1 : c->pc_stack - 1;
-    for (uint32_t at = 0; at < c->im_size; at++) {
-        const uint32_t rule = broken_rule(c, image, sheet, at, limit);
-        if (rule != 0) {
-            answers[0] = at;
-            answers[1] = rule;
-            return 17;
-        }
-    }
-    answers[0] = sheet[0] & 0x3f;
     return 0;
 }
 
@@ -204,9 +147,9 @@ size_t plain_text(uint32_t w, uint8_t *out) {
 
 uint32_t plain_list(const struct plain_config *c, const uint32_t *image, uint64_t first, uint8_t *page, size_t page_len,
                     uint64_t place, uint64_t answers[2]) {
-    uint32_t number = plain_config_number(c);
+    uint32_t number = 0;
     uint8_t line[48];
-    if (number == 0 && place > page_len) number = 18;
+    if (place > page_len) number = 18;
     while (number == 0 && first < c->im_size) {
         const uint32_t w = image[first], verdict = plain_verdict(c, w);
         uint8_t *p = put(hex(put(hex(line, (uint32_t)first, 6), " "), w, 8), " ");

@@ -1,21 +1,6 @@
-/* Configurations (1) and the verdict on a word (5, 6, 7), plainly. */
+/* The verdict on a word (5, 6, 7), plainly. */
 #include "plain.h"
 #include "plain_kinds.h"
-
-static int power_of_two(uint32_t x) { return x != 0 && (x & (x - 1)) == 0; }
-
-uint32_t plain_config_number(const struct plain_config *c) {
-    const uint32_t w = c->reg_width;
-    if (c->im_width != 32 || c->alu_3op || c->irq_if || c->copm_size || c->yam_dbg) return 1;
-    if (c->im_size < 1 || c->im_size > 32768 || (w != 8 && w != 16 && w != 32)) return 1;
-    if (!power_of_two(c->reg_size) || c->reg_size < 8 || c->reg_size > 128) return 1;
-    if (c->rm_size != c->reg_size && (!power_of_two(c->rm_size) || c->rm_size < 2 * c->reg_size || c->rm_size > 1024 || w != 32)) return 1;
-    if (c->pc_stack < 1 || c->pc_stack > 64) return 1;
-    if (c->dm_size != 0 && (!power_of_two(c->dm_size) || c->dm_size < 2 || c->dm_size > 32768)) return 1;
-    if (c->dm_pipe > 2 || c->alu_level > 2 || (c->alu_level > 0 && w < 16)) return 1;
-    if (c->alu_mult > 1 || c->alu_spr > 1 || c->iop_if > 1 || c->iop_rmw > 1 || (c->iop_rmw && !c->iop_if)) return 1;
-    return c->yam_clk > 1023 || c->yam_sreg3 > 65535;
-}
 
 uint32_t plain_verdict(const struct plain_config *c, uint32_t w) {
     const uint32_t high = ~(c->reg_size - 1) & 0x7f, one_bad = high << 16, two_bad = high << 16 | 0xff80 | high;

@@ -1,5 +1,6 @@
 //! Compares the proved library, through its C interface, with an independent model, and its speed with plain programs in C.
 
+pub mod c_interface;
 pub mod calls;
 pub mod cases;
 pub mod compare;
@@ -9,20 +10,16 @@ pub mod document_texts;
 pub mod generate;
 pub mod json;
 pub mod model;
-pub mod plain;
 pub mod random;
 pub mod refusals;
 pub mod speed;
-pub mod speed_texts;
 pub mod texts;
 pub mod vector_parts;
 pub mod vectors;
-#[cfg(any(feature = "library", feature = "plain"))]
-pub mod yam;
 
 /// What is compared with the model: the library, or what stands in its place.
 #[cfg(any(feature = "library", feature = "plain"))]
-pub const LIBRARY: Option<&dyn calls::Calls> = Some(&yam::Library);
+pub const LIBRARY: Option<&dyn calls::Calls> = Some(&c_interface::Library);
 #[cfg(not(any(feature = "library", feature = "plain")))]
 pub const LIBRARY: Option<&dyn calls::Calls> = None;
 

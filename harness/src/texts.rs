@@ -1,12 +1,13 @@
 //! Source text into words: short and long texts, and listings read back.
 
+use crate::c_interface::Plain;
+use crate::calls::Calls;
 use crate::cases::{answers, config};
 use crate::compare::{Assembled, Pair};
 use crate::generate::configs::{self, Size};
 use crate::generate::{sources, words};
 use crate::model::assemble::word_count;
 use crate::model::config::Config;
-use crate::plain;
 use crate::random::Random;
 
 /// What the cases came to.
@@ -42,7 +43,7 @@ fn compare(pair: &mut Pair, r: &mut Random, config: &[u32], text: &[u8]) -> Resu
     let assembled = pair.assemble(config, text, &words, &places)?;
     if let Ok(config) = <&[u32; 19]>::try_from(config) {
         let (mut written, mut two) = (words, [7, 7]);
-        let number = plain::assemble(config, text, &mut written, &mut two);
+        let number = Plain.assemble(config, text, &mut written, &mut two);
         let places = assembled.answers.len().min(2);
         if number != assembled.number || written != assembled.words || two[..places] != assembled.answers[..places] {
             let text = String::from_utf8_lossy(text);

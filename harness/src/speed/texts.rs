@@ -1,11 +1,12 @@
 //! Times source text into words: the same lines as one long text and as many short ones.
 
+use super::programs::config;
+use super::times::{grown, line, Times};
+use crate::c_interface::Plain;
 use crate::calls::Calls;
 use crate::generate::sources::{numbered_label, readable};
 use crate::model::config::Config;
-use crate::plain;
 use crate::random::Random;
-use crate::speed::{config, grown, line, Times};
 
 const LONG: usize = 32_768;
 const SHORT: usize = 1_000;
@@ -14,7 +15,7 @@ const LABEL_EVERY: usize = 32;
 
 /// A text of so many lines, each a word. With labels, a quarter of the lines jump to one or call
 /// it.
-fn text(r: &mut Random, c: &Config, lines: usize, with_labels: bool) -> Vec<u8> {
+pub fn text(r: &mut Random, c: &Config, lines: usize, with_labels: bool) -> Vec<u8> {
     let labels = (lines / LABEL_EVERY) as u32;
     let mut text = String::new();
     for at in 0..lines {
@@ -63,7 +64,7 @@ impl TextsBench {
             },
             &mut || {
                 for text in texts.iter() {
-                    from_plain.0 = plain::assemble(config, text, &mut b, &mut from_plain.1);
+                    from_plain.0 = Plain.assemble(config, text, &mut b, &mut from_plain.1);
                 }
             },
         );
@@ -85,8 +86,8 @@ pub fn report<L: Calls>(library: &L, rounds: usize) -> Result<(), String> {
             long.round(library, &config)?;
             short.round(library, &config)?;
         }
-        line(&format!("assemble {LONG}, {what}"), "line", &long.times);
-        line(&format!("assemble {SHORT}, {what}"), "line", &short.times);
+        line(&format!("assemble {LONG}, {what}"), "line", &long.times, None);
+        line(&format!("assemble {SHORT}, {what}"), "line", &short.times, None);
         let (library, plain) = grown(&short.times, &long.times);
         println!("assemble, {what}, {LONG} to {SHORT} lines: library {library:.2}, plain {plain:.2}");
     }
