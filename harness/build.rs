@@ -4,7 +4,7 @@ use std::path::{Path, PathBuf};
 use std::process::Command;
 
 /// Each is compiled on its own, as a C program's files are.
-const SOURCES: [&str; 8] = [
+const SOURCES: [&str; 9] = [
     "plain.c",
     "plain_kinds.c",
     "plain_words.c",
@@ -13,6 +13,7 @@ const SOURCES: [&str; 8] = [
     "plain_tools.c",
     "plain_assemble.c",
     "plain_calls.c",
+    "stack_used.c",
 ];
 
 fn run(command: &mut Command) {

@@ -3,6 +3,8 @@
    Every call takes arbitrary values and lengths, ends, and answers the documents' number: 0 for a pass, else the refusal or stop (docs/refusals.md).
    A list is a pointer and its length in elements. Where a length is 0 the pointer is not read, but must not be null. Lists that a call may write must
    not overlap with any other list of that call. Calls hold no state of their own, so several threads may call at once, each with its own lists.
+   No call takes more than 64 KB of stack, whatever its lengths and its configuration, so that threads with small stacks may call too (harness/test
+   tries it).
 
    What a call may write, it writes as said there, and nothing else. `answers` takes what a call answers beside its number, as many as it has room for;
    places beyond are left as they were. Beside a refusal the answers are 0, but a run answers its steps and cycles, 17 its address and rule, a text its

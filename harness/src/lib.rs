@@ -13,6 +13,8 @@ pub mod model;
 pub mod random;
 pub mod refusals;
 pub mod speed;
+#[cfg(any(feature = "library", feature = "plain"))]
+pub mod stack;
 pub mod texts;
 pub mod vector_parts;
 pub mod vectors;

@@ -15,6 +15,8 @@ use yam_harness::cases::{Subject, SUBJECTS};
 use yam_harness::compare::{Counts, Pair};
 use yam_harness::model::Model;
 use yam_harness::random::Random;
+#[cfg(any(feature = "library", feature = "plain"))]
+use yam_harness::stack;
 use yam_harness::{document, document_texts, refusals, vectors, LIBRARY, LIBRARY_NAME};
 
 /// How many differences are printed, and how much of each.
@@ -56,6 +58,11 @@ fn number(text: &str) -> Result<u64, String> {
 }
 
 fn main() -> ExitCode {
+    #[cfg(any(feature = "library", feature = "plain"))]
+    if std::env::args().nth(1).is_some_and(|argument| argument == stack::INSIDE) {
+        stack::inside(&yam_harness::c_interface::Library);
+        return ExitCode::SUCCESS;
+    }
     match options().and_then(|options| test(&options)) {
         Ok(true) => ExitCode::SUCCESS,
         Ok(false) => ExitCode::FAILURE,
@@ -71,6 +78,10 @@ fn test(options: &Options) -> Result<bool, String> {
     let mut good = run_document("model", &Model) & run_refusals("model", &Model) & refusals_name_calls();
     if let Some(library) = LIBRARY {
         good &= run_document(LIBRARY_NAME, library) & run_refusals(LIBRARY_NAME, library);
+    }
+    #[cfg(any(feature = "library", feature = "plain"))]
+    {
+        good &= stack::report()?;
     }
     if let Some(folder) = &options.vectors {
         good &= run_vectors("model", &Model, folder)?;
