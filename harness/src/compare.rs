@@ -2,6 +2,7 @@
 
 use crate::calls::{Calls, State};
 use crate::generate::states::Lists;
+use crate::runs::RunsSeen;
 use crate::texts::TextsSeen;
 use std::collections::BTreeMap;
 use std::fmt::Debug;
@@ -58,6 +59,7 @@ pub struct Pair<'a> {
     pub compared: u64,
     pub demand: DemandSeen,
     pub texts: TextsSeen,
+    pub runs: RunsSeen,
 }
 
 /// Says in which place two lists differ first.
@@ -76,7 +78,15 @@ type Differences = Vec<Option<String>>;
 
 impl<'a> Pair<'a> {
     pub fn new(model: &'a dyn Calls, library: &'a dyn Calls) -> Pair<'a> {
-        Pair { model, library, counts: Counts::new(), compared: 0, demand: DemandSeen::default(), texts: TextsSeen::default() }
+        Pair {
+            model,
+            library,
+            counts: Counts::new(),
+            compared: 0,
+            demand: DemandSeen::default(),
+            texts: TextsSeen::default(),
+            runs: RunsSeen::default(),
+        }
     }
 
     /// Counts the comparison; a difference is said with what was given.

@@ -12,6 +12,7 @@ pub mod json;
 pub mod model;
 pub mod random;
 pub mod refusals;
+pub mod runs;
 pub mod speed;
 #[cfg(any(feature = "library", feature = "plain"))]
 pub mod stack;

@@ -15,6 +15,7 @@ use yam_harness::cases::{Subject, SUBJECTS};
 use yam_harness::compare::{Counts, Pair};
 use yam_harness::model::Model;
 use yam_harness::random::Random;
+use yam_harness::runs::{RunsSeen, LATE};
 #[cfg(any(feature = "library", feature = "plain"))]
 use yam_harness::stack;
 use yam_harness::{document, document_texts, refusals, vectors, LIBRARY, LIBRARY_NAME};
@@ -116,8 +117,23 @@ fn test(options: &Options) -> Result<bool, String> {
          without labels give {} words whose texts are their lines",
         texts.plain, texts.back, texts.back_words, texts.unreadable, texts.printed, texts.printed_lines
     );
+    let runs = pair.runs;
+    println!(
+        "runs made again by single steps: {}, {} steps, {} into special-register mode and {} out of it, {} off the image's end, {} to far \
+         addresses, {} of them alike modulo 512; after {LATE} steps or more {} were stopped by 5, {} by 6, {} by 7",
+        runs.runs,
+        runs.steps,
+        runs.entered,
+        runs.left,
+        runs.off_end,
+        runs.leaps,
+        runs.leaps_alike,
+        runs.late[0],
+        runs.late[1],
+        runs.late[2]
+    );
     println!("{} comparisons, {} cases with a difference", pair.compared, differences.len());
-    let met = options.case.is_some() || every_number_met(&pair.counts);
+    let met = options.case.is_some() || every_number_met(&pair.counts) & runs_met(&runs);
     Ok(good && met && differences.is_empty())
 }
 
@@ -184,6 +200,13 @@ fn every_number_met(counts: &Counts) -> bool {
         println!("every call answered every number that it can, 0 to 22, 24 to 26 and 36, and no other");
     }
     met
+}
+
+fn runs_met(runs: &RunsSeen) -> bool {
+    if !runs.all_met() {
+        println!("the runs never met something that is counted of them: {runs:?}");
+    }
+    runs.all_met()
 }
 
 fn run_document(name: &str, calls: &dyn Calls) -> bool {

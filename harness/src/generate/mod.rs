@@ -4,5 +4,6 @@ pub mod configs;
 pub mod files;
 pub mod programs;
 pub mod sources;
+pub mod spread;
 pub mod states;
 pub mod words;

@@ -21,8 +21,8 @@ const SUBROUTINE: u8 = 64;
 const SPECIAL: u8 = 128;
 const NO_OPERATION: u32 = 0xa000_0000;
 const LOOKED_THROUGH: u32 = 100;
-const SPR_ON: u32 = 0xf005_0000;
-const SPR_OFF: u32 = 0xf004_0000;
+pub const SPR_ON: u32 = 0xf005_0000;
+pub const SPR_OFF: u32 = 0xf004_0000;
 
 /// A program that is made to pass: main first, then subroutines, each a stretch of addresses that control does not leave but by a call, a
 /// return or a jump between subroutines.
@@ -155,7 +155,8 @@ fn fill(r: &mut Random, c: &Config, program: &mut Program, stretches: &[Range<u3
     };
 }
 
-fn mov_special(r: &mut Random, c: &Config) -> u32 {
+/// A word for special-register mode that stays in it.
+pub fn mov_special(r: &mut Random, c: &Config) -> u32 {
     loop {
         let word = words::special(r, c);
         let allowed = |i: &crate::model::words::Instruction| crate::model::step::is_allowed_in_special_mode(i);
@@ -166,7 +167,7 @@ fn mov_special(r: &mut Random, c: &Config) -> u32 {
 }
 
 /// A word that can be read and goes on to the next address in normal mode.
-fn straight(r: &mut Random, c: &Config) -> u32 {
+pub fn straight(r: &mut Random, c: &Config) -> u32 {
     loop {
         let word = words::readable(r, c);
         let Ok(instruction) = read(c, word) else { continue };
