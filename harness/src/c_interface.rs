@@ -143,10 +143,12 @@ macro_rules! c_interface {
 
             // Each call is given pointers and lengths of whole slices, lent for the time of the call; a slice that it may write is lent to it alone.
             impl Calls for $name {
+                #[inline(always)]
                 fn read(&self, config: &[u32], word: u32, instruction: &mut [u32]) -> u32 {
                     unsafe { c::read(config.as_ptr(), config.len(), word, instruction.as_mut_ptr(), instruction.len()) }
                 }
 
+                #[inline(always)]
                 fn write(&self, config: &[u32], instruction: &[u32], answers: &mut [u64]) -> u32 {
                     unsafe {
                         c::write(
@@ -160,10 +162,12 @@ macro_rules! c_interface {
                     }
                 }
 
+                #[inline(always)]
                 fn reset(&self, machine: &mut [u32]) -> u32 {
                     unsafe { c::reset(machine.as_mut_ptr(), machine.len()) }
                 }
 
+                #[inline(always)]
                 fn step(&self, config: &[u32], image: &[u32], inputs: &[u32], state: State, answers: &mut [u64]) -> u32 {
                     unsafe {
                         c::step(
@@ -189,6 +193,7 @@ macro_rules! c_interface {
                     }
                 }
 
+                #[inline(always)]
                 fn run(&self, config: &[u32], image: &[u32], inputs: &[u32], state: State, budget: u64, answers: &mut [u64]) -> u32 {
                     unsafe {
                         c::run(
@@ -215,6 +220,7 @@ macro_rules! c_interface {
                     }
                 }
 
+                #[inline(always)]
                 fn check(&self, config: &[u32], image: &[u32], sheet: &[u8], answers: &mut [u64]) -> u32 {
                     unsafe {
                         c::check(
@@ -230,6 +236,7 @@ macro_rules! c_interface {
                     }
                 }
 
+                #[inline(always)]
                 fn text(&self, config: &[u32], word: u32, page: &mut [u8], place: u64, answers: &mut [u64]) -> u32 {
                     unsafe {
                         c::text(
@@ -245,6 +252,7 @@ macro_rules! c_interface {
                     }
                 }
 
+                #[inline(always)]
                 fn list(&self, config: &[u32], image: &[u32], first: u64, page: &mut [u8], place: u64, answers: &mut [u64]) -> u32 {
                     unsafe {
                         c::list(
@@ -262,14 +270,17 @@ macro_rules! c_interface {
                     }
                 }
 
+                #[inline(always)]
                 fn load(&self, file: &[u8], config: &mut [u32], image: &mut [u32]) -> u32 {
                     unsafe { c::load(file.as_ptr(), file.len(), config.as_mut_ptr(), config.len(), image.as_mut_ptr(), image.len()) }
                 }
 
+                #[inline(always)]
                 fn store(&self, config: &[u32], image: &[u32], file: &mut [u8]) -> u32 {
                     unsafe { c::store(config.as_ptr(), config.len(), image.as_ptr(), image.len(), file.as_mut_ptr(), file.len()) }
                 }
 
+                #[inline(always)]
                 fn assemble(&self, config: &[u32], text: &[u8], words: &mut [u32], answers: &mut [u64]) -> u32 {
                     unsafe {
                         c::assemble(

@@ -6,7 +6,7 @@
 //!   --times    times only
 //!   --counts   counts only
 //!
-//! Exit status 1 where a count passes its bound by more than 3%, 3 where valgrind is not on the machine, so that nothing was counted, 2 where
+//! Exit status 1 where a count is more than 3% above its bound, 3 where valgrind is not on the machine, so that nothing was counted, 2 where
 //! something else is wrong.
 
 use std::process::ExitCode;
@@ -67,7 +67,7 @@ fn bench(arguments: &[String]) -> Result<ExitCode, String> {
     }
     Ok(match speed::report_counts()? {
         speed::Verdict::Within => ExitCode::SUCCESS,
-        speed::Verdict::Passed => ExitCode::FAILURE,
+        speed::Verdict::Over => ExitCode::FAILURE,
         speed::Verdict::NotCounted => ExitCode::from(3),
     })
 }

@@ -2,7 +2,7 @@
 
 use super::count::{can_count, count, Counted};
 
-/// How far a count may pass its bound.
+/// How far a count may be above its bound.
 const SLACK: f64 = 1.03;
 /// How much dearer a step may be with the largest data memory at W 32, where no cell has to be looked at.
 const APART: f64 = 1.02;
@@ -37,7 +37,7 @@ const LARGE_STEP: &str = "step, W 32, DM_SIZE 32768, a call";
 #[derive(Clone, Copy, Debug, PartialEq, Eq)]
 pub enum Verdict {
     Within,
-    Passed,
+    Over,
     /// Valgrind is not on the machine.
     NotCounted,
 }
@@ -56,23 +56,23 @@ pub fn report_counts() -> Result<Verdict, String> {
         return Ok(Verdict::NotCounted);
     }
     let list = count()?;
-    println!("{:50} {:>10} {:>10} {:>10}", "instructions, by callgrind", "library", "plain C", "at most");
-    let (mut passed, mut met) = (0, 0);
+    println!("{:56} {:>10} {:>10} {:>10}", "instructions, by callgrind", "library", "plain C", "at most");
+    let (mut over, mut met) = (0, 0);
     let mut row = |name: &str, Counted { library, plain }: Counted, bound: Option<f64>, slack: f64| {
         let (most, mark) = match bound {
             None => (String::new(), ""),
             Some(most) => (
                 format!("{most:.2}"),
                 match library {
-                    count if count > most * slack => "  PASSED",
-                    count if count > most => "  a little above",
+                    count if count > most * slack => "  OVER",
+                    count if count > most => "  (a little above)",
                     _ => "",
                 },
             ),
         };
         met += u32::from(bound.is_some());
-        passed += u32::from(mark == "  PASSED");
-        println!("{name:50} {library:10.2} {plain:10.2} {most:>10}{mark}");
+        over += u32::from(mark == "  OVER");
+        println!("{name:56} {library:10.2} {plain:10.2} {most:>10}{mark}");
     };
     for (case, counted) in &list {
         row(&case.name, *counted, bound(&case.name, *counted), SLACK);
@@ -85,6 +85,6 @@ pub fn report_counts() -> Result<Verdict, String> {
     if met != BOUNDS.len() as u32 + 1 {
         return Err(format!("{} bounds, of which {met} were looked at", BOUNDS.len() + 1));
     }
-    println!("{passed} of {met} bounds passed by more than {:.0}% (the last: at all)", (SLACK - 1.0) * 100.0);
-    Ok(if passed == 0 { Verdict::Within } else { Verdict::Passed })
+    println!("{over} of {met} bounds exceeded by more than {:.0}% (the last: at all)", (SLACK - 1.0) * 100.0);
+    Ok(if over == 0 { Verdict::Within } else { Verdict::Over })
 }

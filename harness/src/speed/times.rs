@@ -59,7 +59,7 @@ impl Times {
 pub fn line(name: &str, unit: &str, times: &Times, goal: Option<f64>) {
     let (library, plain) = (best(&times.library), best(&times.plain));
     let goal = goal.map_or(String::new(), |goal| format!("  goal {goal:.2}"));
-    println!("{name:40} library {library:8.2} ns/{unit:5} plain {plain:8.2} ns/{unit:5} ratio {:5.2}{goal}", times.ratio());
+    println!("{name:42} library {library:8.2} ns/{unit:5} plain {plain:8.2} ns/{unit:5} ratio {:5.2}{goal}", times.ratio());
 }
 
 /// How much dearer a unit is where there are more of them, in the library and in the plain program:
