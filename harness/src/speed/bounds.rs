@@ -24,9 +24,9 @@ const BOUNDS: [(&str, Bound); 14] = [
     ("step, W 16, DM_SIZE 32768, a call", Bound::Plain),
     ("step refused by 1, W 16, DM_SIZE 32768, a call", Bound::AtMost(1_200.0)),
     ("step refused by 2, W 16, DM_SIZE 32768, a call", Bound::AtMost(1_200.0)),
-    ("run of 10 steps, W 32, a call", Bound::AtMost(4_000.0)),
-    ("run of 100 steps, W 32, a call", Bound::AtMost(11_000.0)),
-    ("run of 1000 steps, W 32, a call", Bound::AtMost(52_000.0)),
+    ("run of 10 steps, arithmetic, IM_SIZE 128, a call", Bound::AtMost(4_000.0)),
+    ("run of 100 steps, arithmetic, IM_SIZE 128, a call", Bound::AtMost(11_000.0)),
+    ("run of 1000 steps, arithmetic, IM_SIZE 128, a call", Bound::AtMost(52_000.0)),
     ("check, an address", Bound::AtMost(130.0)),
     ("list, a line", Bound::AtMost(430.0)),
 ];
@@ -56,7 +56,7 @@ pub fn report_counts() -> Result<Verdict, String> {
         return Ok(Verdict::NotCounted);
     }
     let list = count()?;
-    println!("{:56} {:>10} {:>10} {:>10}", "instructions, by callgrind", "library", "plain C", "at most");
+    println!("{:68} {:>10} {:>10} {:>10}", "instructions, by callgrind", "library", "plain C", "at most");
     let (mut over, mut met) = (0, 0);
     let mut row = |name: &str, Counted { library, plain }: Counted, bound: Option<f64>, slack: f64| {
         let (most, mark) = match bound {
@@ -72,7 +72,7 @@ pub fn report_counts() -> Result<Verdict, String> {
         };
         met += u32::from(bound.is_some());
         over += u32::from(mark == "  OVER");
-        println!("{name:56} {library:10.2} {plain:10.2} {most:>10}{mark}");
+        println!("{name:68} {library:10.2} {plain:10.2} {most:>10}{mark}");
     };
     for (case, counted) in &list {
         row(&case.name, *counted, bound(&case.name, *counted), SLACK);

@@ -46,7 +46,7 @@ pub struct Counted {
     pub plain: f64,
 }
 
-/// The arithmetic program's steps and runs, one call each.
+/// Steps of the arithmetic program, and short runs, one call each.
 fn call_cases() -> Vec<Case> {
     let case = |name: String, what: What| Case { name, sizes: (200, 400), units: 1, what };
     let work = |width: u32, dm_size: u32| {
@@ -62,8 +62,16 @@ fn call_cases() -> Vec<Case> {
         let name = format!("step refused by {number}, W 16, DM_SIZE 32768, a call");
         list.push(case(name, What::StepCall(work(16, 32_768).refused(number), number)));
     }
-    for budget in [10, 100, 1_000] {
-        list.push(case(format!("run of {budget} steps, W 32, a call"), What::RunCall(work(32, 32), budget)));
+    let mut places = vec![];
+    for im_size in [SHORT_IMAGE, LONG_IMAGE] {
+        places.push(("arithmetic", im_size, image(im_size, &[(0, &program("arithmetic", 32))])));
+    }
+    places.extend(spread_programs().into_iter().map(|(name, image)| (name, LONG_IMAGE, image)));
+    for (name, im_size, image) in places {
+        for budget in [10, 100, 1_000] {
+            let work = Work::new(config(im_size, 32), image.clone(), 0);
+            list.push(case(format!("run of {budget} steps, {name}, IM_SIZE {im_size}, a call"), What::RunCall(work, budget)));
+        }
     }
     list
 }
