@@ -135,6 +135,16 @@ module _ (c : Config) (image : List ℕ) (mask : ℕ) (cells : List ℕ) (pc x :
           getD-set-other cells (2 * i) (2 * j + 1) pc 0 (λ e. omega (arith, e)) in
           rw (tag, held) (k .each j h)
 
+  -- is found
+  pub keep-at : cellAt mask after pc ≡ x
+  unfolding cellAt pick
+  keep-at =
+      let tag : getD after (2 * i) 0 ≡ pc =
+      getD-set-other (set cells (2 * i) pc) (2 * i + 1) (2 * i) x 0 (λ e. omega (arith, e)) ∙ getD-set-same cells (2 * i) pc 0 (omega (arith, low, k .room)) in
+      let held : getD after (2 * i + 1) 0 ≡ x =
+      getD-set-same (set cells (2 * i) pc) (2 * i + 1) x 0 (rw (length-set cells (2 * i) pc) (omega (arith, low, k .room))) in
+      rw (tag, eq-eqb pc pc refl, held)
+
 -- none yet
 pub none-cached : (c : Config) (image : List ℕ) (mask n : ℕ) → 2 * mask + 1 < n → Cached c image mask (replicate n 0)
 none-cached c image mask n h =

@@ -1,6 +1,7 @@
 -- How far steps came on the way of a run: what is left to do, after what is done, is the whole run.
 use Prim.Native.Nat.{ℕ, _+_, _*_, _%_, _≤_, _<_}
 use mathlib.Core.Bool.{true}
+use mathlib.Core.Logic.{_⊎_}
 use mathlib.Core.Path.{_≡_}
 use lib.ListN.{length}
 use Rattle.state.specs.State.{Env, State, state}
@@ -57,16 +58,11 @@ pub record Came (here : ℕ → ℕ) (budget : ℕ) (e : Env) (s t : State) (r :
   pub finished : r .stop ≡ 0 → r .steps ≡ budget
   pub apart : 256 ≤ r .stop → (r .steps < budget) × (actionIn (here (t .core .pc)) ≡ 0)
 
--- one step from s: it is stopped, or it leads to t
-pub record Went (e : Env) (s t : State) (r : Turns) : Type 0 where
-  pub reached : Reached e s t (r .steps) (r .cycles)
-  pub stopped : (r .stop ≡ 0 → ⊥) → (r .steps ≡ 0) × (advanceOf e t .number ≡ r .stop)
-  pub finished : r .stop ≡ 0 → r .steps ≡ 1
-
--- how far a stretch came, in either mode
-pub record Paused (budget : ℕ) (e : Env) (s t : State) (r : Turns) : Type 0 where
+-- how far a step came that is made by hand, or a stretch over cells that have the first step's cell: `stop` as above, but none does not tell that the budget
+-- is spent; some step is done where the next is not stopped
+pub record Went (budget : ℕ) (e : Env) (s t : State) (r : Turns) : Type 0 where
   pub few : r .steps ≤ budget
   pub reached : Reached e s t (r .steps) (r .cycles)
   pub stopped : (r .stop ≡ 0 → ⊥) → r .stop < 256 → (r .steps < budget) × (advanceOf e t .number ≡ r .stop)
-  pub finished : r .stop ≡ 0 → r .steps ≡ budget
   pub apart : 256 ≤ r .stop → r .steps < budget
+  pub some : (r .stop ≡ 0) ⊎ (256 ≤ r .stop) → 0 < r .steps

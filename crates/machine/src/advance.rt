@@ -19,7 +19,11 @@ fn cell_at(cells: &[u64], mask: usize, pc: usize) -> u64
     ensures { λ r. ⌜ r ≡ cellAt mask (now (cells .entry)) pc ⌝ }
 {
     let i = pc & mask;
-    if cells[2 * i] == pc as u64 { cells[2 * i + 1] } else { 0 }
+    if cells[2 * i] == pc as u64 {
+        cells[2 * i + 1]
+    } else {
+        0
+    }
 }
 
 // What the word at PC does by its cell; `limit` is the return stack's.

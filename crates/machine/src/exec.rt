@@ -247,40 +247,17 @@ pub fn exec(
         },
         actions::BST => {
             let t = by_register(m, registers, x);
-            plans::compute(
-                c,
-                m,
-                flag(x),
-                Operation::Bst(value(x)),
-                t,
-            )
+            plans::compute(c, m, flag(x), Operation::Bst(value(x)), t)
         },
         actions::BLD => {
             let t = by_register(m, registers, x);
-            plans::compute(
-                c,
-                m,
-                flag(x),
-                Operation::Bld(value(x)),
-                t,
-            )
+            plans::compute(c, m, flag(x), Operation::Bld(value(x)), t)
         },
         actions::BLDS => {
             let t = by_register(m, registers, x);
-            plans::compute(
-                c,
-                m,
-                flag(x),
-                Operation::Blds(value(x)),
-                t,
-            )
+            plans::compute(c, m, flag(x), Operation::Blds(value(x)), t)
         },
-        actions::LDYX => plans::load_index(
-            m,
-            flag(x),
-            source(x) as u32,
-            destination(x) as u32,
-        ),
+        actions::LDYX => plans::load_index(m, flag(x), source(x) as u32, destination(x) as u32),
         actions::MOVX_TO => plans::index_store(
             c,
             m,
@@ -296,16 +273,8 @@ pub fn exec(
             m.wp + m.rx,
             memory,
         ),
-        actions::MOV_REGISTER => plans::assign(
-            m,
-            place(m, x),
-            lower(m, registers, x),
-        ),
-        actions::MOV_IMMEDIATE => plans::assign(
-            m,
-            place(m, x),
-            value(x),
-        ),
+        actions::MOV_REGISTER => plans::assign(m, place(m, x), lower(m, registers, x)),
+        actions::MOV_IMMEDIATE => plans::assign(m, place(m, x), value(x)),
         actions::MOV_FROM_REGISTER => plans::load_register(
             m,
             place(m, x),
@@ -323,18 +292,8 @@ pub fn exec(
             upper(m, registers, x),
             lower(m, registers, x),
         ),
-        actions::MOV_TO_ADDRESS => plans::store_direct(
-            m,
-            value(x),
-            upper(m, registers, x),
-        ),
-        actions::MOVIO_READ => plans::port_read(
-            c,
-            m,
-            place(m, x),
-            lower(m, registers, x),
-            inputs,
-        ),
+        actions::MOV_TO_ADDRESS => plans::store_direct(m, value(x), upper(m, registers, x)),
+        actions::MOVIO_READ => plans::port_read(c, m, place(m, x), lower(m, registers, x), inputs),
         actions::IORMW => plans::port_modify(
             c,
             m,
@@ -349,18 +308,9 @@ pub fn exec(
             lower(m, registers, x),
             room,
         ),
-        actions::MOVIO_IMMEDIATE => plans::port_write(
-            m,
-            upper(m, registers, x),
-            value(x),
-            room,
-        ),
+        actions::MOVIO_IMMEDIATE => plans::port_write(m, upper(m, registers, x), value(x), room),
         actions::JMP_ALWAYS => plans::jump(m, value(x) as usize),
-        actions::JMP_CONDITION => plans::branch(
-            m,
-            taken(x),
-            value(x) as usize,
-        ),
+        actions::JMP_CONDITION => plans::branch(m, taken(x), value(x) as usize),
         actions::JMP_REGISTER_ALWAYS => plans::jump(
             m,
             (upper(m, registers, x) % layout::TARGETS) as usize,
@@ -376,12 +326,7 @@ pub fn exec(
             m,
             (upper(m, registers, x) % layout::TARGETS) as usize,
         ),
-        actions::RLD => plans::ret_constant(
-            m,
-            place(m, x),
-            value(x),
-            stack,
-        ),
+        actions::RLD => plans::ret_constant(m, place(m, x), value(x), stack),
         actions::JSRWP => plans::enter_bank(
             c,
             m,

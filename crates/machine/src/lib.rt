@@ -4,8 +4,8 @@ mod advance;
 mod exec;
 mod guards;
 mod memories;
-mod stepping;
 mod single;
+mod stepping;
 mod stretching;
 mod turning;
 

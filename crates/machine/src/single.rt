@@ -1,10 +1,11 @@
 // One step by the cell of its word. What the loop does not carry out is made here; the rest is a stretch of one step.
 ghost use mathlib.Core.Path.{_≡_};
-ghost use Prim.Native.Nat.{_<_};
+ghost use Prim.Native.Nat.{_≤_, _<_};
 ghost use lib.ListN.{length, getD};
 ghost use Rattle.state.specs.State.{env, state};
 ghost use Rattle.state.proofs.Ranges.{Good};
 ghost use Rattle.cells.specs.Cell.{cellOf};
+ghost use Rattle.machine.specs.Cached.{cellAt, Cached};
 ghost use Rattle.machine.specs.Exec.{Placed};
 ghost use Rattle.machine.specs.Single.{stoppedBy, passedTo, switched, reveals as revealing, revealed, revealedIn};
 ghost use Rattle.machine.specs.Stretching.{Went};
@@ -88,11 +89,13 @@ fn reveal(c: Config, m: Core, x: u64, registers: &mut [u32]) -> Turns
     stopped(m, 8)
 }
 
-// The step at PC, whose word's cell is x.
+// Steps from PC on, to the budget, to a stop, or to one that is made apart; at least one, unless it is stopped. x is the cell of the word at PC, and kept among the cells.
 pub fn by_cell(
     c: Config,
     m: Core,
     x: u64,
+    mask: usize,
+    cells: &[u64],
     image: &[u32],
     inputs: &[u32],
     stack: &mut [u32],
@@ -100,9 +103,10 @@ pub fn by_cell(
     memory: &mut [u32],
     addresses: &mut [u32],
     values: &mut [u32],
+    budget: u64,
 ) -> Turns
-    requires { ⌜ (length (now stack) ≡ 63) × Good (env c (now image) (now inputs)) (state m (now stack) (now registers) (now memory) (now addresses) (now values)) × (m .pc < c .imsize) × (getD (now image) (m .pc) 0 < 4294967296) × (x ≡ cellOf c (getD (now image) (m .pc) 0)) ⌝ }
-    ensures { λ r. ⌜ Went (env c (now (image .entry)) (now (inputs .entry))) (state m (now (stack .entry)) (now (registers .entry)) (now (memory .entry)) (now (addresses .entry)) (now (values .entry))) (state (r .core) (now (stack .exit)) (now (registers .exit)) (now (memory .exit)) (now (addresses .exit)) (now (values .exit))) r ⌝ }
+    requires { ⌜ (length (now stack) ≡ 63) × Good (env c (now image) (now inputs)) (state m (now stack) (now registers) (now memory) (now addresses) (now values)) × (m .pc < c .imsize) × (getD (now image) (m .pc) 0 < 4294967296) × (x ≡ cellOf c (getD (now image) (m .pc) 0)) × Cached c (now image) mask (now cells) × (cellAt mask (now cells) (m .pc) ≡ x) × (0 < budget) × (budget ≤ 1000000) ⌝ }
+    ensures { λ r. ⌜ Went budget (env c (now (image .entry)) (now (inputs .entry))) (state m (now (stack .entry)) (now (registers .entry)) (now (memory .entry)) (now (addresses .entry)) (now (values .entry))) (state (r .core) (now (stack .exit)) (now (registers .exit)) (now (memory .exit)) (now (addresses .exit)) (now (values .exit))) r ⌝ }
 {
     if cells::action(x) == 0 {
         return switch(m, cells::value(x));
@@ -110,12 +114,11 @@ pub fn by_cell(
     if m.mode != 0 {
         return reveal(c, m, x, registers);
     }
-    let pair: [u64; 2] = [m.pc as u64, x];
     let limit = Machine::stack_limit(c.pcstack);
     stretch(
         registers,
-        &pair,
-        0,
+        cells,
+        mask,
         c,
         limit,
         m,
@@ -125,6 +128,6 @@ pub fn by_cell(
         memory,
         addresses,
         values,
-        1,
+        budget,
     )
 }

@@ -1,4 +1,7 @@
-// A run: stretches of the loop over the cells of words that were met before, and between them single steps, whose cells are kept. And a step, which is one of those.
+// A run: the word at PC is decoded, with some after it, and the loop carries out their cells, and those that are kept of words met before, to one that it does not
+// have. And a step, which has one cell.
+ghost use mathlib.Core.Bool.{true, false};
+ghost use mathlib.Core.Logic.{_⊎_};
 ghost use mathlib.Core.Path.{_≡_};
 ghost use Prim.Native.Nat.{_+_, _*_, _≤_, _<_};
 ghost use lib.ListN.{length, getD};
@@ -8,17 +11,14 @@ ghost use Rattle.state.specs.State.{env, state};
 ghost use Rattle.state.specs.Run.{runOf};
 ghost use Rattle.state.proofs.Ranges.{Good};
 ghost use Rattle.cells.specs.Cell.{cellOf};
-ghost use Rattle.machine.specs.Cached.{Cached};
+ghost use Rattle.machine.specs.Cached.{cellAt, Cached};
 ghost use Rattle.machine.specs.Stepping.{endOf, turnsEnd};
-ghost use Rattle.machine.specs.Stretching.{Paused};
 use crate::Turns;
 use crate::exec::APART;
 use crate::memories::cell;
 use crate::single::by_cell;
 use crate::single::stopped;
-use crate::stretching::stretch;
 use state::Core;
-use state::Machine;
 use words::Config;
 
 // How many words after the one at PC are decoded with it.
@@ -49,10 +49,13 @@ pub fn once(
         return stopped(m, 4);
     }
     let x = cells::decode(c, cell(image, pc));
+    let pair: [u64; 2] = [pc as u64, x];
     by_cell(
         c,
         m,
         x,
+        0,
+        &pair,
         image,
         inputs,
         stack,
@@ -60,13 +63,14 @@ pub fn once(
         memory,
         addresses,
         values,
+        1,
     )
 }
 
 // Keeps x as the cell of address pc.
 fn keep(c: Config, image: &[u32], mask: usize, pc: usize, x: u64, cells: &mut [u64])
     requires { ⌜ Cached c (now image) mask (now cells) × (pc < c .imsize) × (getD (now image) pc 0 < 4294967296) × (x ≡ cellOf c (getD (now image) pc 0)) ⌝ }
-    ensures { λ _. ⌜ Cached c (now (image .entry)) mask (now (cells .exit)) ⌝ }
+    ensures { λ _. ⌜ Cached c (now (image .entry)) mask (now (cells .exit)) × (cellAt mask (now (cells .exit)) pc ≡ x) ⌝ }
 {
     let i = pc & mask;
     cells[2 * i] = pc as u64;
@@ -104,43 +108,14 @@ fn ahead(n: u64) -> u64
     if n < AHEAD { n } else { AHEAD }
 }
 
-// A stretch of the loop, which special-register mode does not enter.
-fn stretched(
-    c: Config,
-    m: Core,
-    mask: usize,
-    cells: &[u64],
-    image: &[u32],
-    inputs: &[u32],
-    stack: &mut [u32],
-    registers: &mut [u32],
-    memory: &mut [u32],
-    addresses: &mut [u32],
-    values: &mut [u32],
-    budget: u64,
-) -> Turns
-    requires { ⌜ Cached c (now image) mask (now cells) × (length (now stack) ≡ 63) × Good (env c (now image) (now inputs)) (state m (now stack) (now registers) (now memory) (now addresses) (now values)) × (0 < budget) × (budget ≤ 1000000) ⌝ }
-    ensures { λ r. ⌜ Paused budget (env c (now (image .entry)) (now (inputs .entry))) (state m (now (stack .entry)) (now (registers .entry)) (now (memory .entry)) (now (addresses .entry)) (now (values .entry))) (state (r .core) (now (stack .exit)) (now (registers .exit)) (now (memory .exit)) (now (addresses .exit)) (now (values .exit))) r ⌝ }
+// Whether a stop ends the run: there is one, and it does not say that the next step is made apart.
+fn ends(stop: u32) -> bool
+    ensures { λ r. ⌜ (r ≡ true → (stop ≡ 0 → ⊥) × (stop < 256)) × (r ≡ false → (stop ≡ 0) ⊎ (256 ≤ stop)) ⌝ }
 {
-    if m.mode != 0 {
-        return stopped(m, APART);
+    if stop == 0 {
+        return false;
     }
-    let limit = Machine::stack_limit(c.pcstack);
-    stretch(
-        registers,
-        cells,
-        mask,
-        c,
-        limit,
-        m,
-        image,
-        inputs,
-        stack,
-        memory,
-        addresses,
-        values,
-        budget,
-    )
+    stop < APART
 }
 
 // Steps of a state that 1, 2 and 3 let pass, to the budget or to a stop, over pairs of an address and the cell of its word.
@@ -165,9 +140,22 @@ fn turning(
     let mut done: u64 = 0;
     let mut cycles: u64 = 0;
     while done < budget {
-        let t = stretched(
+        let pc = core.pc;
+        if c.imsize as usize <= pc {
+            return Turns {
+                stop: 4,
+                steps: done,
+                cycles,
+                core,
+            };
+        }
+        let x = cells::decode(c, cell(image, pc));
+        fill(c, image, mask, pc + 1, cells, ahead(budget - done - 1));
+        keep(c, image, mask, pc, x, cells);
+        let t = by_cell(
             c,
             core,
+            x,
             mask,
             cells,
             image,
@@ -183,7 +171,7 @@ fn turning(
         core = next;
         cycles = cycles + t.cycles;
         done = done + t.steps;
-        if t.stop < APART {
+        if ends(t.stop) {
             return Turns {
                 stop: t.stop,
                 steps: done,
@@ -191,42 +179,6 @@ fn turning(
                 core,
             };
         }
-        let pc = core.pc;
-        if c.imsize as usize <= pc {
-            return Turns {
-                stop: 4,
-                steps: done,
-                cycles,
-                core,
-            };
-        }
-        let x = cells::decode(c, cell(image, pc));
-        keep(c, image, mask, pc, x, cells);
-        fill(c, image, mask, pc + 1, cells, ahead(budget - done));
-        let u = by_cell(
-            c,
-            core,
-            x,
-            image,
-            inputs,
-            stack,
-            registers,
-            memory,
-            addresses,
-            values,
-        );
-        let after = u.core;
-        core = after;
-        if u.stop != 0 {
-            return Turns {
-                stop: u.stop,
-                steps: done,
-                cycles,
-                core,
-            };
-        }
-        cycles = cycles + u.cycles;
-        done = done + 1;
     }
     Turns {
         stop: 0,
@@ -352,10 +304,43 @@ pub fn turns(
     ensures { λ r. ⌜ turnsEnd r (now (stack .exit)) (now (registers .exit)) (now (memory .exit)) (now (addresses .exit)) (now (values .exit)) ≡ endOf (runOf budget (env c (now (image .entry)) (now (inputs .entry))) (state m (now (stack .entry)) (now (registers .entry)) (now (memory .entry)) (now (addresses .entry)) (now (values .entry)))) ⌝ }
 {
     if budget < FEW {
-        return few(c, m, image, inputs, stack, registers, memory, addresses, values, budget);
+        return few(
+            c,
+            m,
+            image,
+            inputs,
+            stack,
+            registers,
+            memory,
+            addresses,
+            values,
+            budget,
+        );
     }
     if (budget <= SMALL) | (c.imsize as u64 <= SMALL) {
-        return small(c, m, image, inputs, stack, registers, memory, addresses, values, budget);
+        return small(
+            c,
+            m,
+            image,
+            inputs,
+            stack,
+            registers,
+            memory,
+            addresses,
+            values,
+            budget,
+        );
     }
-    large(c, m, image, inputs, stack, registers, memory, addresses, values, budget)
+    large(
+        c,
+        m,
+        image,
+        inputs,
+        stack,
+        registers,
+        memory,
+        addresses,
+        values,
+        budget,
+    )
 }

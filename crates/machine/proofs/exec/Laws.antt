@@ -162,7 +162,6 @@ module _ (v : View) (w b e : ℕ) (i : Instruction) {at d s fl val tk : ℕ}
   entered : {r : Change} → r ≡ act v i (actionKind b e) → r ≡ act v i (entryKind e)
   entered q = q ∙ ap (λ a. act v i (actionKind a e)) (sym entry-is)
 
-
   computing-is : {r : Change} → (o : Operation) {x : ℕ} {y : Operand} → K ≡ compute o y → reads flag′ b → reads destination′ b →
       x ≡ operand (v .config) y (register v (i .source)) (i .value) →
       r ≡ computed (v .config) (v .core) (fl) o (operands at d x) → r ≡ act v i (entryKind e)
@@ -297,8 +296,6 @@ module _ (v : View) (w b e : ℕ) (i : Instruction) {at d s fl val tk : ℕ}
       r ≡ pick (leb (16 * (x / 0x4000000) + v .config .regsize) (v .config .rmsize)) (moved (masked (flagged (banked (went (v .core) (x % 65536)) (16 * (x / 0x4000000))) 0 (x / 0x100000 % 2) (x / 0x200000 % 2)) (x / 65536 % 16) (v .core .saved) (v .core .mode))) (stopped (v .core) 12) → r ≡ act v i (entryKind e)
   unfolding act stops9to15 planOf factsFor marksOf pick leaveBankPlan
   leave-bank-is k x-is q = entered (q ∙ rw (k, x-is ∙ ap (λ y. getD (v .registers) y 0) (sym (add-zero (v .core .wp)))))
-
-
 
   -- the same, with the operands y from where the action has them: what the arms cite, so that none writes the view out
 

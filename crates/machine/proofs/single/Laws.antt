@@ -41,7 +41,7 @@ use Rattle.machine.specs.declared.Turns.{Turns}
 use Rattle.machine.specs.Exec.{act, changeAt}
 use Rattle.machine.specs.Single.{stoppedBy, passedTo, switched, reveals, revealed, revealedIn}
 use Rattle.machine.specs.Stretching.{SameLengths, Went}
-use Rattle.machine.proofs.advance.Laws.{outside, refused-by, carried-out}
+use Rattle.machine.proofs.advance.Laws.{outside, refused-by, carried-out, stop-small}
 use Rattle.machine.proofs.Lookup.{refused-verdict, read-verdict, stopped-here, acted-here, facts-here, keeps-mode}
 use Rattle.machine.proofs.stretching.Laws.{went-by, went-stopped}
 
@@ -97,7 +97,7 @@ on-special : (m : Core) → m .mode ≡ 1 → switched m turns-on ≡ stoppedBy 
 unfolding switched pick
 on-special m z = rw z
 
-module _ (e : Env) (s : State) (g : Good e s) (h : s .core .pc < e .config .imsize) where
+module _ (budget : ℕ) (some : 0 < budget) (e : Env) (s : State) (g : Good e s) (h : s .core .pc < e .config .imsize) where
   abbrev word : ℕ
   word = getD (e .image) (s .core .pc) 0
 
@@ -107,13 +107,14 @@ module _ (e : Env) (s : State) (g : Good e s) (h : s .core .pc < e .config .imsi
 
   -- a step that a change carries out, by hand
   passing : (x : Change) → x ≡ changeAt e s → x .stop ≡ 0 → 2 ≡ cyclesOf (e .config) (factsAt e s) → SameLengths s (applied x s) →
-      Went e s (applied x s) (passedTo (x .core))
-  passing x p z k l = went-by e s (applied x s) 0 2 (x .core) g l (carried-out e s x 2 p z k) refl
+      Went budget e s (applied x s) (passedTo (x .core))
+  passing x p z k l = went-by budget e s (applied x s) 2 (x .core) g l (carried-out e s x 2 p z k) some
 
   -- or a stop
-  stopping : (n : ℕ) → changeAt e s ≡ stopped (s .core) n → (n ≡ 0 → ⊥) → Went e s s (stoppedBy (s .core) n)
+  stopping : (n : ℕ) → changeAt e s ≡ stopped (s .core) n → (n ≡ 0 → ⊥) → Went budget e s s (stoppedBy (s .core) n)
   stopping n p z =
-      went-stopped e s n (s .core) g (sym (ap (λ (o : Outcome). o .number) (refused-by e s (stopped (s .core) n) (sym p) z))) z
+      went-stopped budget e s n (s .core) g (sym (ap (λ (o : Outcome). o .number) (refused-by e s (stopped (s .core) n) (sym p) z))) z
+      (rw p at (stop-small e s)) some
 
   same : (t : State) → t ≡ s → SameLengths s t
   same t q = rw q (record { stack = refl; registers = refl; memory = refl; addresses = refl; values = refl })
@@ -131,7 +132,7 @@ module _ (e : Env) (s : State) (g : Good e s) (h : s .core .pc < e .config .imsi
     two-cycles k q p = p ∙ (ap (λ (j : Kind). cyclesOf (e .config) (factsFor j)) (sym q) ∙ ap (cyclesOf (e .config)) (facts-here e s h i read))
 
     on-goes : entryAt (i .row) / 0x4000000 ≡ 63 → s .core .mode ≡ 0 →
-        Went e s (state (masked (onward (s .core)) 15 (s .core .imask) 1) (s .stack) (s .registers) (s .memory) (s .addresses) (s .values))
+        Went budget e s (state (masked (onward (s .core)) 15 (s .core .imask) 1) (s .stack) (s .registers) (s .memory) (s .addresses) (s .values))
         (passedTo (masked (onward (s .core)) 15 (s .core .imask) 1))
     unfolding act stops9to15 planOf factsFor marksOf pick enterSpecialPlan cyclesOf one applied putOf
     on-goes t m =
@@ -142,13 +143,13 @@ module _ (e : Env) (s : State) (g : Good e s) (h : s .core .pc < e .config .imsi
         passing (moved (masked (onward (s .core)) 15 (s .core .imask) 1)) p refl (two-cycles enter-special k refl)
         (record { stack = refl; registers = refl; memory = refl; addresses = refl; values = refl })
 
-    on-stops : entryAt (i .row) / 0x4000000 ≡ 63 → s .core .mode ≡ 1 → Went e s s (stoppedBy (s .core) 8)
+    on-stops : entryAt (i .row) / 0x4000000 ≡ 63 → s .core .mode ≡ 1 → Went budget e s s (stoppedBy (s .core) 8)
     unfolding factsFor marksOf pick
     on-stops t m =
         stopping 8 (stopped-here e s h 8 (verdict false (rw (kind-on (entryAt (i .row)) t, m) refl)) (λ z. omega (arith, z))) (λ z. omega (arith, z))
 
     off-goes : entryAt (i .row) / 0x4000000 ≡ 62 → (s .core .mode ≡ 0) ⊎ (s .core .mode ≡ 1) →
-        Went e s (state (masked (onward (s .core)) (s .core .saved) (s .core .saved) 0) (s .stack) (s .registers) (s .memory) (s .addresses) (s .values))
+        Went budget e s (state (masked (onward (s .core)) (s .core .saved) (s .core .saved) 0) (s .stack) (s .registers) (s .memory) (s .addresses) (s .values))
         (passedTo (masked (onward (s .core)) (s .core .saved) (s .core .saved) 0))
     unfolding act stops9to15 planOf factsFor marksOf pick leaveSpecialPlan cyclesOf one applied putOf
     off-goes t m =
@@ -182,7 +183,7 @@ module _ (e : Env) (s : State) (g : Good e s) (h : s .core .pc < e .config .imsi
       tested = rw special told
 
       shown-goes : reveals x ≡ true →
-          Went e s
+          Went budget e s
           (state (onward (s .core)) (s .stack)
           (set (s .registers) (s .core .wp + destinationIn x) (specialRegister (e .config) (s .core .spr7) (sourceIn x))) (s .memory) (s .addresses) (s .values))
           (passedTo (onward (s .core)))
@@ -199,7 +200,7 @@ module _ (e : Env) (s : State) (g : Good e s) (h : s .core .pc < e .config .imsi
           passing y c refl (two-cycles move k refl)
           (record { stack = refl; registers = length-set (s .registers) _ _; memory = refl; addresses = refl; values = refl })
 
-      other-stops : reveals x ≡ false → Went e s s (stoppedBy (s .core) 8)
+      other-stops : reveals x ≡ false → Went budget e s s (stoppedBy (s .core) 8)
       unfolding pick
       other-stops q = stopping 8 (stopped-here e s h 8 (verdict false (tested ∙ q)) (λ z. omega (arith, z))) (λ z. omega (arith, z))
 
@@ -210,34 +211,34 @@ two-modes zero h = inl refl
 two-modes (suc zero) h = inr refl
 two-modes (suc (suc m)) h = let f : ⊥ = omega (arith, h) in absurd f
 
-module _ (e : Env) (s : State) (x : ℕ) (g : Good e s) (h : s .core .pc < e .config .imsize) (small : getD (e .image) (s .core .pc) 0 < 4294967296)
+module _ (budget : ℕ) (some : 0 < budget) (e : Env) (s : State) (x : ℕ) (g : Good e s) (h : s .core .pc < e .config .imsize) (small : getD (e .image) (s .core .pc) 0 < 4294967296)
     (q : x ≡ cellOf (e .config) (getD (e .image) (s .core .pc) 0)) where
   abbrev left : Core → State
   left m = state m (s .stack) (s .registers) (s .memory) (s .addresses) (s .values)
 
-  pub switch-went : (r : Turns) (n : ℕ) → actionIn x ≡ 0 → n ≡ valueIn x → r ≡ switched (s .core) n → Went e s (left (r .core)) r
+  pub switch-went : (r : Turns) (n : ℕ) → actionIn x ≡ 0 → n ≡ valueIn x → r ≡ switched (s .core) n → Went budget e s (left (r .core)) r
   unfolding switched pick
   switch-went r n z nv rq = go (cell-told (e .config) (getD (e .image) (s .core .pc) 0) (g .lawful) small)
     where
-      go : CellCase (e .config) (getD (e .image) (s .core .pc) 0) → Went e s (left (r .core)) r
+      go : CellCase (e .config) (getD (e .image) (s .core .pc) 0) → Went budget e s (left (r .core)) r
       go (refused k f rd y v) =
           let nk : n ≡ k = nv ∙ (ap valueIn q ∙ v) in
           let w = switched-refused (s .core) k f in
           let rk : r ≡ stoppedBy (s .core) k = rq ∙ (ap (switched (s .core)) nk ∙ w .0) in
-          rw rk (stopping e s g h k (stopped-here e s h k (refused-verdict (e .config) (getD (e .image) (s .core .pc) 0) (s .core .mode) k rd (w .1)) (w .1)) (w .1))
+          rw rk (stopping budget some e s g h k (stopped-here e s h k (refused-verdict (e .config) (getD (e .image) (s .core .pc) 0) (s .core .mode) k rd (w .1)) (w .1)) (w .1))
       go (switched-on i rd t y v) =
           on (two-modes (s .core .mode) (g .core .masks .special))
         where
-          on : (s .core .mode ≡ 0) ⊎ (s .core .mode ≡ 1) → Went e s (left (r .core)) r
-          on (inl m) = rw (rq ∙ (ap (switched (s .core)) (nv ∙ (ap valueIn q ∙ v)) ∙ on-normal (s .core) m)) (on-goes e s g h i rd t m)
-          on (inr m) = rw (rq ∙ (ap (switched (s .core)) (nv ∙ (ap valueIn q ∙ v)) ∙ on-special (s .core) m)) (on-stops e s g h i rd t m)
+          on : (s .core .mode ≡ 0) ⊎ (s .core .mode ≡ 1) → Went budget e s (left (r .core)) r
+          on (inl m) = rw (rq ∙ (ap (switched (s .core)) (nv ∙ (ap valueIn q ∙ v)) ∙ on-normal (s .core) m)) (on-goes budget some e s g h i rd t m)
+          on (inr m) = rw (rq ∙ (ap (switched (s .core)) (nv ∙ (ap valueIn q ∙ v)) ∙ on-special (s .core) m)) (on-stops budget some e s g h i rd t m)
       go (switched-off i rd t y v) =
-          rw (rq ∙ ap (switched (s .core)) (nv ∙ (ap valueIn q ∙ v))) (off-goes e s g h i rd t (two-modes (s .core .mode) (g .core .masks .special)))
+          rw (rq ∙ ap (switched (s .core)) (nv ∙ (ap valueIn q ∙ v))) (off-goes budget some e s g h i rd t (two-modes (s .core .mode) (g .core .masks .special)))
       go (carried i rd t y) = absurd (y (sym (ap actionIn q) ∙ z))
 
   pub reveal-went : (r : Turns) (rest : List ℕ) → (actionIn x ≡ 0 → ⊥) → (s .core .mode ≡ 0 → ⊥) → r ≡ revealed (s .core) x →
       rest ≡ revealedIn (e .config) (s .core) x (s .registers) →
-      Went e s (state (r .core) (s .stack) rest (s .memory) (s .addresses) (s .values)) r
+      Went budget e s (state (r .core) (s .stack) rest (s .memory) (s .addresses) (s .values)) r
   unfolding revealed revealedIn pick
   reveal-went r rest n mn rq re = go (cell-told (e .config) (getD (e .image) (s .core .pc) 0) (g .lawful) small)
     where
@@ -245,7 +246,7 @@ module _ (e : Env) (s : State) (x : ℕ) (g : Good e s) (h : s .core .pc < e .co
       one-mode (inl z) = absurd (mn z)
       one-mode (inr z) = z
 
-      go : CellCase (e .config) (getD (e .image) (s .core .pc) 0) → Went e s (state (r .core) (s .stack) rest (s .memory) (s .addresses) (s .values)) r
+      go : CellCase (e .config) (getD (e .image) (s .core .pc) 0) → Went budget e s (state (r .core) (s .stack) rest (s .memory) (s .addresses) (s .values)) r
       go (refused k f rd y v) = absurd (n (ap actionIn q ∙ y))
       go (switched-on i rd t y v) = absurd (n (ap actionIn q ∙ y))
       go (switched-off i rd t y v) = absurd (n (ap actionIn q ∙ y))
@@ -257,12 +258,10 @@ module _ (e : Env) (s : State) (x : ℕ) (g : Good e s) (h : s .core .pc < e .co
           m : s .core .mode ≡ 1
           m = one-mode (two-modes (s .core .mode) (g .core .masks .special))
 
-          by : (b : Bool) → reveals x ≡ b → Went e s (state (r .core) (s .stack) rest (s .memory) (s .addresses) (s .values)) r
-          by true t = rw (rw t at rq, rw t at re) (shown-goes e s g h i rd x p m t)
-          by false t = rw (rw t at rq, rw t at re) (other-stops e s g h i rd x p m t)
+          by : (b : Bool) → reveals x ≡ b → Went budget e s (state (r .core) (s .stack) rest (s .memory) (s .addresses) (s .values)) r
+          by true t = rw (rw t at rq, rw t at re) (shown-goes budget some e s g h i rd x p m t)
+          by false t = rw (rw t at rq, rw t at re) (other-stops budget some e s g h i rd x p m t)
 
 -- past the image
-pub past-image : (e : Env) (s : State) → Good e s → e .config .imsize ≤ s .core .pc → Went e s s (stoppedBy (s .core) 4)
-past-image e s g l =
-    went-stopped e s 4 (s .core) g (sym (ap (λ (o : Outcome). o .number) (refused-by e s (stopped (s .core) 4) (outside e s l) (λ z. omega (arith, z)))))
-    (λ z. omega (arith, z))
+pub past-image : (e : Env) (s : State) → e .config .imsize ≤ s .core .pc → advanceOf e s .number ≡ 4
+past-image e s l = sym (ap (λ (o : Outcome). o .number) (refused-by e s (stopped (s .core) 4) (outside e s l) (λ z. omega (arith, z))))

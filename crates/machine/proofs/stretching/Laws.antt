@@ -3,6 +3,7 @@
 use Prim.Native.Nat.{ℕ, zero, suc, _+_, _-_, _*_, _%_, _≤_, _<_}
 use mathlib.Core.Path.{_≡_, refl, sym, ap, _∙_}
 use mathlib.Core.Bool.{Bool, true, false}
+use mathlib.Core.Logic.{_⊎_, inl, inr}
 use native.Mathlib.Nat.{zero-add, add-zero, add-assoc}
 use native.Mathlib.Omega.{arith}
 use borrow.Author.Tests.{eq-eqb, ne-eqb, eqb-true, eqb-false, ltb-true, ltb-false}
@@ -23,7 +24,7 @@ use Rattle.machine.specs.declared.Turn.{Turn}
 use Rattle.machine.specs.declared.Turns.{Turns}
 use Rattle.machine.specs.Exec.{changeAt}
 use Rattle.machine.specs.Stepping.{End, endOf}
-use Rattle.machine.specs.Stretching.{plus, SameLengths, Reached, Came, Went, Paused, Decides, Steps-by}
+use Rattle.machine.specs.Stretching.{plus, SameLengths, Reached, Came, Went, Decides, Steps-by}
 use Rattle.machine.proofs.advance.Laws.{carried-out, refused-by, stop-small, mode-kept}
 
 -- the change is committed
@@ -229,100 +230,90 @@ module _ (here : ℕ → ℕ) (budget : ℕ) (e : Env) (s₀ s : State) (steps c
 
 -- One step
 
--- that is stopped, or leads on
-pub went-by : (e : Env) (s t : State) (stop cycles : ℕ) (core : Core) → Good e s → SameLengths s t →
-    _≡_ {A = Outcome} (record { number = stop; cycles = cycles; state = t }) (advanceOf e s) → stop ≡ 0 →
-    Went e s t (record { stop = stop; steps = 1; cycles = cycles; core = core })
-went-by e s t stop cycles core g l q z =
-    let r : Reached e s t 1 cycles = rw (zero-add cycles) at (reached-more e s s 0 0 (reached-start e s g) (record { number = stop; cycles = cycles; state = t }) q z l) in
-    record { reached = r; stopped = λ n. absurd (n z); finished = λ _. refl }
-
-pub went-stopped : (e : Env) (s : State) (stop : ℕ) (core : Core) → Good e s → advanceOf e s .number ≡ stop → (stop ≡ 0 → ⊥) →
-    Went e s s (record { stop = stop; steps = 0; cycles = 0; core = core })
-went-stopped e s stop core g q n = record { reached = reached-start e s g; stopped = λ _. (refl, q); finished = λ z. absurd (n z) }
-
--- by a stretch of one step over cells that have its cell
-pub went-came : (here : ℕ → ℕ) (e : Env) (s t : State) (r : Turns) → Came here 1 e s t r → (actionIn (here (s .core .pc)) ≡ 0 → ⊥) → Went e s t r
-went-came here e s t r c n =
+-- that leads on
+pub went-by : (budget : ℕ) (e : Env) (s t : State) (cycles : ℕ) (core : Core) → Good e s → SameLengths s t →
+    _≡_ {A = Outcome} (record { number = 0; cycles = cycles; state = t }) (advanceOf e s) → 0 < budget →
+    Went budget e s t (record { stop = 0; steps = 1; cycles = cycles; core = core })
+went-by budget e s t cycles core g l q h =
+    let r : Reached e s t 1 cycles = rw (zero-add cycles) at (reached-more e s s 0 0 (reached-start e s g) (record { number = 0; cycles = cycles; state = t }) q refl l) in
     record {
-      reached = c .reached;
-      stopped = λ z.
-          let x = c .stopped z (small z) in
-          (omega (arith, x .0), x .1);
-      finished = c .finished;
+      few = h;
+      reached = r;
+      stopped = λ n. absurd (n refl);
+      apart = λ m. let f : ⊥ = omega (arith, m) in absurd f;
+      some = λ _. omega arith;
     }
-  where
-    small : (r .stop ≡ 0 → ⊥) → r .stop < 256
-    small z = go (ltb (r .stop) 256) refl
-      where
-        go : (b : Bool) → ltb (r .stop) 256 ≡ b → r .stop < 256
-        go true q = ltb-true (r .stop) 256 q
-        go false q =
-            let x = c .apart (ltb-false (r .stop) 256 q) in
-            let same = reached-none e s t (r .steps) (r .cycles) (c .reached) (omega (arith, x .0)) in
-            absurd (n (rw same at (x .1)))
 
--- is a run of one
-pub went-run : (e : Env) (s t : State) (r : Turns) → Went e s t r →
-    _≡_ {A = End} (record { number = r .stop; steps = r .steps; cycles = r .cycles; last = t }) (endOf (runOf 1 e s))
-went-run e s t r w = go (eqb (r .stop) 0) refl
-  where
-    go : (b : Bool) → eqb (r .stop) 0 ≡ b → _≡_ {A = End} (record { number = r .stop; steps = r .steps; cycles = r .cycles; last = t }) (endOf (runOf 1 e s))
-    go true q =
-        let z = eqb-true (r .stop) 0 q in
-        rw z (reached-done e s t (r .steps) (r .cycles) (w .reached) 1 (w .finished z))
-    go false q =
-        let z = eqb-false (r .stop) 0 q in
-        let x = w .stopped z in
-        reached-stop e s t (r .steps) (r .cycles) (w .reached) 1 (r .stop) (x .1) z (omega (arith, x .0))
-
--- A stretch in either mode
-
-pub paused-came : (here : ℕ → ℕ) (budget : ℕ) (e : Env) (s t : State) (r : Turns) → Came here budget e s t r → Paused budget e s t r
-paused-came here budget e s t r c =
-    record { few = c .few; reached = c .reached; stopped = c .stopped; finished = c .finished; apart = λ h. c .apart h .0 }
-
-pub paused-at-once : (budget : ℕ) (e : Env) (s : State) (core : Core) → Good e s → 0 < budget →
-    Paused budget e s s (record { stop = 256; steps = 0; cycles = 0; core = core })
-paused-at-once budget e s core g h =
+-- that is stopped
+pub went-stopped : (budget : ℕ) (e : Env) (s : State) (stop : ℕ) (core : Core) → Good e s → advanceOf e s .number ≡ stop → (stop ≡ 0 → ⊥) → stop < 256 →
+    0 < budget → Went budget e s s (record { stop = stop; steps = 0; cycles = 0; core = core })
+went-stopped budget e s stop core g q n l h =
     record {
       few = omega arith;
       reached = reached-start e s g;
-      stopped = λ _ l. let f : ⊥ = omega (arith, l) in absurd f;
-      finished = λ z. let f : ⊥ = omega (arith, z) in absurd f;
-      apart = λ _. h;
+      stopped = λ _ _. (h, q);
+      apart = λ m. let f : ⊥ = omega (arith, m, l) in absurd f;
+      some = none;
     }
+  where
+    none : (stop ≡ 0) ⊎ (256 ≤ stop) → 0 < 0
+    none (inl z) = absurd (n z)
+    none (inr m) = let f : ⊥ = omega (arith, m, l) in absurd f
 
--- A run that goes on
+-- and a stretch over cells that have its cell
+pub went-came : (here : ℕ → ℕ) (budget : ℕ) (e : Env) (s t : State) (r : Turns) → Came here budget e s t r → (actionIn (here (s .core .pc)) ≡ 0 → ⊥) → 0 < budget →
+    Went budget e s t r
+went-came here budget e s t r c n h =
+    record { few = c .few; reached = c .reached; stopped = c .stopped; apart = λ m. c .apart m .0; some = some-step }
+  where
+    some-step : (r .stop ≡ 0) ⊎ (256 ≤ r .stop) → 0 < r .steps
+    some-step (inl z) = let q = c .finished z in omega (arith, q, h)
+    some-step (inr m) = go (eqb (r .steps) 0) refl
+      where
+        go : (b : Bool) → eqb (r .steps) 0 ≡ b → 0 < r .steps
+        go true q =
+            let same = reached-none e s t (r .steps) (r .cycles) (c .reached) (eqb-true (r .steps) 0 q) in
+            absurd (n (rw same at (c .apart m .1)))
+        go false q = let z = eqb-false (r .steps) 0 q in omega (arith, z)
 
-module _ (e : Env) (s₀ s : State) (steps cycles budget : ℕ) (g : Reached e s₀ s steps cycles) (more : steps < budget) where
-  -- to the end of the budget, or to a stop
-  pub run-ends : (t : State) (r : Turns) → Paused (budget - steps) e s t r → r .stop < 256 →
-      _≡_ {A = End} (record { number = r .stop; steps = steps + r .steps; cycles = cycles + r .cycles; last = t }) (endOf (runOf budget e s₀))
-  run-ends t r p l = go (eqb (r .stop) 0) refl
-    where
-      j : Reached e s₀ t (steps + r .steps) (cycles + r .cycles)
-      j = reached-join e s₀ s steps cycles g t (r .steps) (r .cycles) (p .reached)
+-- one step is a run of one
+pub went-run : (e : Env) (s t : State) (r : Turns) → Went 1 e s t r →
+    _≡_ {A = End} (record { number = r .stop; steps = r .steps; cycles = r .cycles; last = t }) (endOf (runOf 1 e s))
+went-run e s t r w = go (eqb (r .stop) 0) refl
+  where
+    small : r .stop < 256
+    small = by (ltb (r .stop) 256) refl
+      where
+        by : (b : Bool) → ltb (r .stop) 256 ≡ b → r .stop < 256
+        by true q = ltb-true (r .stop) 256 q
+        by false q =
+            let m = ltb-false (r .stop) 256 q in
+            let a = w .apart m in
+            let b = w .some (inr m) in
+            let f : ⊥ = omega (arith, a, b) in
+            absurd f
 
-      go : (b : Bool) → eqb (r .stop) 0 ≡ b →
-          _≡_ {A = End} (record { number = r .stop; steps = steps + r .steps; cycles = cycles + r .cycles; last = t }) (endOf (runOf budget e s₀))
-      go true q =
-          let z = eqb-true (r .stop) 0 q in
-          let n = p .finished z in
-          rw z (reached-done e s₀ t (steps + r .steps) (cycles + r .cycles) j budget (omega (arith, n, more)))
-      go false q =
-          let z = eqb-false (r .stop) 0 q in
-          let x = p .stopped z l in
-          reached-stop e s₀ t (steps + r .steps) (cycles + r .cycles) j budget (r .stop) (x .1) z (omega (arith, x .0))
+    go : (b : Bool) → eqb (r .stop) 0 ≡ b → _≡_ {A = End} (record { number = r .stop; steps = r .steps; cycles = r .cycles; last = t }) (endOf (runOf 1 e s))
+    go true q =
+        let z = eqb-true (r .stop) 0 q in
+        let n = w .some (inl z) in
+        let l = w .few in
+        rw z (reached-done e s t (r .steps) (r .cycles) (w .reached) 1 (omega (arith, n, l)))
+    go false q =
+        let z = eqb-false (r .stop) 0 q in
+        let x = w .stopped z small in
+        reached-stop e s t (r .steps) (r .cycles) (w .reached) 1 (r .stop) (x .1) z (x .0)
 
-  -- to a step that is stopped
-  pub step-ends : (t : State) (r : Turns) → Went e s t r → (r .stop ≡ 0 → ⊥) →
-      _≡_ {A = End} (record { number = r .stop; steps = steps; cycles = cycles; last = t }) (endOf (runOf budget e s₀))
-  step-ends t r w z =
-      let x = w .stopped z in
-      let same = reached-none e s t (r .steps) (r .cycles) (w .reached) (x .0) in
-      reached-stop e s₀ t steps cycles (rw same g) budget (r .stop) (x .1) z more
+-- A run that goes on to a stop
+pub run-ends : (e : Env) (s₀ s : State) (steps cycles budget : ℕ) → Reached e s₀ s steps cycles → steps < budget → (t : State) (r : Turns) →
+    Went (budget - steps) e s t r → (r .stop ≡ 0 → ⊥) → r .stop < 256 →
+    _≡_ {A = End} (record { number = r .stop; steps = steps + r .steps; cycles = cycles + r .cycles; last = t }) (endOf (runOf budget e s₀))
+run-ends e s₀ s steps cycles budget g more t r w z l =
+    let x = w .stopped z l in
+    reached-stop e s₀ t (steps + r .steps) (cycles + r .cycles) (reached-join e s₀ s steps cycles g t (r .steps) (r .cycles) (w .reached)) budget (r .stop) (x .1) z
+    (omega (arith, x .0))
 
-  -- a step more
-  pub step-more : (t : State) (r : Turns) → Went e s t r → r .stop ≡ 0 → Reached e s₀ t (steps + 1) (cycles + r .cycles)
-  step-more t r w z = rw (← w .finished z) (reached-join e s₀ s steps cycles g t (r .steps) (r .cycles) (w .reached))
+-- or to the image's end
+pub image-ends : (e : Env) (s₀ s : State) (steps cycles budget : ℕ) → Reached e s₀ s steps cycles → steps < budget → advanceOf e s .number ≡ 4 →
+    _≡_ {A = End} (record { number = 4; steps = steps; cycles = cycles; last = s }) (endOf (runOf budget e s₀))
+image-ends e s₀ s steps cycles budget g more q = reached-stop e s₀ s steps cycles g budget 4 q (λ z. omega (arith, z)) more

@@ -17,9 +17,10 @@ slice-write-registers c = rw (c .before .before .before .destination .ensures .0
 
 returns : tie.Need-returns
 unfolding revealed revealedIn pick
-returns c =
-    (rw (sym (c .before .before .before .before .before .before .before .before .reveals .ensures) ∙ c .before .before .before .before .before .before .before .if1 .taken) (c .passed .ensures ∙ ap (λ (y : Change). passedTo (y .core)) (c .before .before .skip .ensures)),
-    rw (sym (c .before .before .before .before .before .before .before .before .reveals .ensures) ∙ c .before .before .before .before .before .before .before .if1 .taken, ← c .before .before .before .before .before .before .destination .ensures .0, ← c .before .before .before .before .source .ensures .0, ← c .before .before .before .special-register .ensures))
+returns c = (
+  rw (sym (c .before .before .before .before .before .before .before .before .reveals .ensures) ∙ c .before .before .before .before .before .before .before .if1 .taken) (c .passed .ensures ∙ ap (λ (y : Change). passedTo (y .core)) (c .before .before .skip .ensures)),
+  rw (sym (c .before .before .before .before .before .before .before .before .reveals .ensures) ∙ c .before .before .before .before .before .before .before .if1 .taken, ← c .before .before .before .before .before .before .destination .ensures .0, ← c .before .before .before .before .source .ensures .0, ← c .before .before .before .special-register .ensures),
+)
 
 returns-2 : tie.Need-returns-2
 unfolding revealed revealedIn pick
