@@ -1,4 +1,3 @@
-pub mod Joins
 pub mod Lookup
 pub mod Cached
 pub mod Claims

@@ -1,4 +1,3 @@
-pub mod Joins
 pub mod Exec
 pub mod Cached
 pub mod Single

@@ -2,16 +2,12 @@
 
 mod advance;
 mod exec;
-mod guards;
 mod memories;
 mod single;
 mod stepping;
 mod stretching;
 mod turning;
 
-pub use guards::in_ranges;
-pub use guards::refusal;
-pub use memories::joined;
 use state::Change;
 use state::Core;
 use state::Machine;

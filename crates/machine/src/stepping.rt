@@ -6,7 +6,6 @@ use crate::Ran;
 use crate::RanCore;
 use crate::Stepped;
 use crate::SteppedCore;
-use crate::guards::refusal;
 use crate::turning::once;
 use crate::turning::turns;
 use state::Core;
@@ -35,7 +34,7 @@ pub fn step_lent(
             core,
         };
     }
-    let n = refusal(
+    let n = guards::refusal(
         c,
         core,
         image,
@@ -131,7 +130,7 @@ pub fn run_lent(
             core,
         };
     }
-    let n = refusal(
+    let n = guards::refusal(
         c,
         core,
         image,

@@ -11,8 +11,8 @@ use lib.Seq.{take-all, length-take-le, drop-drop, drop-at, sets-eq}
 use Rattle.laws.specs.Choice.{pick, pick-yes, true-is}
 use Rattle.laws.specs.Test.{test, Holds, holds, tests, Below}
 use Rattle.state.specs.declared.Core.{Core}
-use Rattle.machine.specs.Joins.{joinOf}
-use Rattle.machine.proofs.Joins.{join-zero}
+use Rattle.guards.specs.Joins.{joinOf}
+use Rattle.guards.proofs.Joins.{join-zero}
 use Rattle.yam_c.specs.Flat.{stored, coreWords, machineWords, coreIn, stackIn, shaped, machineOf, outside, updated}
 use Rattle.yam_c.proofs.Storing.{stored-append, stored-all}
 

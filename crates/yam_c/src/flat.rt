@@ -197,7 +197,7 @@ pub fn machine_shaped(flat: &[u32]) -> bool
     if flat.len() != MACHINE_WORDS {
         return false;
     }
-    let above = machine::joined(&flat[80..100]);
+    let above = guards::joined(&flat[80..100]);
     above == 0
 }
 
@@ -240,7 +240,7 @@ pub fn misshapen(
     let mut core = m.core;
     core.pc = Machine::PC_LIMIT;
     let stack = m.stack;
-    machine::refusal(
+    guards::refusal(
         c,
         core,
         image,

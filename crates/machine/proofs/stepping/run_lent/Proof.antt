@@ -7,7 +7,7 @@ use Rattle.machine.proofs.Claims.{runs-fit, runs-misfit}
 use borrow.Author.Needs.{needs}
 use Rattle.machine.proofs.stepping.run_lent.Statement.{statement}
 use Rattle.machine.proofs.stepping.run_lent.Tie as tie
-use Rattle.machine.proofs.guards.refusal.Reads as refusal-reads
+use Rattle.guards.proofs.refusal.Reads as refusal-reads
 use Rattle.machine.proofs.turning.turns.Reads as turns-reads
 
 returns : tie.Need-returns

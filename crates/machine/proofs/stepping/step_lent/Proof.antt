@@ -8,7 +8,7 @@ use Rattle.machine.proofs.Claims.{steps-fit, steps-misfit}
 use borrow.Author.Needs.{needs}
 use Rattle.machine.proofs.stepping.step_lent.Statement.{statement}
 use Rattle.machine.proofs.stepping.step_lent.Tie as tie
-use Rattle.machine.proofs.guards.refusal.Reads as refusal-reads
+use Rattle.guards.proofs.refusal.Reads as refusal-reads
 use Rattle.machine.proofs.turning.once.Reads as once-reads
 
 returns : tie.Need-returns

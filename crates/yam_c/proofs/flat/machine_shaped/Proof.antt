@@ -3,7 +3,7 @@ use Rattle.yam_c.proofs.Machines.{shaped-by, unshaped}
 use borrow.Author.Needs.{needs}
 use Rattle.yam_c.proofs.flat.machine_shaped.Statement.{statement}
 use Rattle.yam_c.proofs.flat.machine_shaped.Tie as tie
-use Rattle.machine.proofs.joined.Reads as joined-reads
+use Rattle.guards.proofs.joined.Reads as joined-reads
 
 returns : tie.Need-returns
 returns c = unshaped (c .before .before .args .flat .now) (c .if1 .taken)

@@ -2,7 +2,7 @@
 use borrow.Author.Needs.{needs}
 use Rattle.yam_c.proofs.flat.misshapen.Statement.{statement}
 use Rattle.yam_c.proofs.flat.misshapen.Tie as tie
-use Rattle.machine.proofs.refusal.Reads as refusal-reads
+use Rattle.guards.proofs.refusal.Reads as refusal-reads
 use Rattle.state.proofs.Machine.reset.Reads as reset-reads
 
 returns : tie.Need-returns

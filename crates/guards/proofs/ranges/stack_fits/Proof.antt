@@ -1,10 +1,10 @@
--- `machine::guards::stack_fits` meets its contract. Assumes nothing.
+-- `guards::ranges::stack_fits` meets its contract. Assumes nothing.
 use mathlib.Core.Path.{sym, _∙_}
 use lib.Seq.{length-take-le}
-use Rattle.machine.proofs.guards.Laws.{below-short, stack-cut}
+use Rattle.guards.proofs.ranges.Laws.{below-short, stack-cut}
 use borrow.Author.Needs.{needs}
-use Rattle.machine.proofs.guards.stack_fits.Statement.{statement}
-use Rattle.machine.proofs.guards.stack_fits.Tie as tie
+use Rattle.guards.proofs.ranges.stack_fits.Statement.{statement}
+use Rattle.guards.proofs.ranges.stack_fits.Tie as tie
 
 returns : tie.Need-returns
 returns c = c .within .ensures ∙ below-short _ _ (c .before .before .before .args .stack .now) (c .before .if1 .taken)

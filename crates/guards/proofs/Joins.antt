@@ -13,7 +13,7 @@ use lib.Pow.{pow-pos}
 use lib.ListN.{length, getD, drop, drop-of-length-le}
 use lib.Seq.{drop-cons}
 use Rattle.laws.specs.Test.{below}
-use Rattle.machine.specs.Joins.{joinFrom, joinOf}
+use Rattle.guards.specs.Joins.{joinFrom, joinOf}
 
 -- the loop that joins
 module _ (xs : List ℕ) (i a : ℕ) where

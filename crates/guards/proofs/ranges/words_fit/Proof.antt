@@ -1,10 +1,10 @@
--- `machine::guards::words_fit` meets its contract. Assumes nothing.
+-- `guards::ranges::words_fit` meets its contract. Assumes nothing.
 use lib.Bits.{or-lt}
 use Rattle.arith.specs.Width.{bits}
-use Rattle.machine.proofs.guards.Laws.{words-all, words-joined}
+use Rattle.guards.proofs.ranges.Laws.{words-all, words-joined}
 use borrow.Author.Needs.{needs}
-use Rattle.machine.proofs.guards.words_fit.Statement.{statement}
-use Rattle.machine.proofs.guards.words_fit.Tie as tie
+use Rattle.guards.proofs.ranges.words_fit.Statement.{statement}
+use Rattle.guards.proofs.ranges.words_fit.Tie as tie
 
 returns : tie.Need-returns
 returns c = words-all (bits (c .before .before .before .before .args .width)) _ (c .before .before .before .before .args .registers .now) (c .before .before .before .before .args .memory .now) (c .before .top-of .ensures .0) (c .if1 .taken) (λ i. c .before .before .before .shared-slice-known .given i .fits) (λ i. c .before .before .shared-slice-known2 .given i .fits)

@@ -1,13 +1,13 @@
--- `machine::memories::joined` meets its contract. Assumes nothing.
+-- `guards::memories::joined` meets its contract. Assumes nothing.
 use native.Mathlib.Omega.{arith}
 use borrow.Author.Needs.{needs}
 use mathlib.Core.Path.{_≡_, refl, _∙_}
 use Prim.Native.Nat.{_-_}
 use lib.ListN.{length, drop}
-use Rattle.machine.specs.Joins.{joinFrom, joinOf}
-use Rattle.machine.proofs.Joins.{join-further, join-done}
-use Rattle.machine.proofs.memories.joined.Statement.{statement}
-use Rattle.machine.proofs.memories.joined.Tie as tie
+use Rattle.guards.specs.Joins.{joinFrom, joinOf}
+use Rattle.guards.proofs.Joins.{join-further, join-done}
+use Rattle.guards.proofs.memories.joined.Statement.{statement}
+use Rattle.guards.proofs.memories.joined.Tie as tie
 
 abbrev Inv-loop : tie.InvT-loop
 Inv-loop xs all₀ i₀ all i = joinFrom all (drop i xs) ≡ joinOf xs

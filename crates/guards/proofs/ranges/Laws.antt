@@ -11,8 +11,8 @@ use lib.Dec.{ltb, eqb}
 use lib.ListN.{length, getD, take, drop, drop-of-length-le, length-drop}
 use lib.Seq.{take-all}
 use Rattle.laws.specs.Test.{below}
-use Rattle.machine.specs.Joins.{joinOf}
-use Rattle.machine.proofs.Joins.{or-below, join-below, join-zero}
+use Rattle.guards.specs.Joins.{joinOf}
+use Rattle.guards.proofs.Joins.{or-below, join-below, join-zero}
 
 -- what is below a lower bound is below a higher one
 cell-less : (b x : ℕ) (p q : Bool) → 1 ≤ b → (p && q) ≡ q → ((ltb x b && p) && (ltb x 1 && q)) ≡ (ltb x 1 && q)

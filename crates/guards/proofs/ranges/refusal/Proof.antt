@@ -1,11 +1,11 @@
--- `machine::guards::refusal` meets its contract. Assumes nothing.
+-- `guards::ranges::refusal` meets its contract. Assumes nothing.
 use mathlib.Core.Path.{sym, _∙_}
 use Rattle.laws.specs.Choice.{pick}
 use borrow.Author.Tests.{not-true, not-false}
 use Rattle.state.specs.Ranges.{inRanges, guards}
 use borrow.Author.Needs.{needs}
-use Rattle.machine.proofs.guards.refusal.Statement.{statement}
-use Rattle.machine.proofs.guards.refusal.Tie as tie
+use Rattle.guards.proofs.ranges.refusal.Statement.{statement}
+use Rattle.guards.proofs.ranges.refusal.Tie as tie
 
 returns : tie.Need-returns
 unfolding guards inRanges pick

@@ -1,7 +1,7 @@
--- `machine::guards::marks_fit` meets its contract. Assumes nothing.
+-- `guards::ranges::marks_fit` meets its contract. Assumes nothing.
 use borrow.Author.Needs.{needs}
-use Rattle.machine.proofs.guards.marks_fit.Statement.{statement}
-use Rattle.machine.proofs.guards.marks_fit.Tie as tie
+use Rattle.guards.proofs.ranges.marks_fit.Statement.{statement}
+use Rattle.guards.proofs.ranges.marks_fit.Tie as tie
 
 returns : tie.Need-returns
 returns c = rw (c .before .before .before .before .before .before .before .before .before .top-of .ensures .0)

@@ -1,4 +1,4 @@
--- `machine::memories::within` meets its contract. Assumes nothing.
+-- `guards::memories::within` meets its contract. Assumes nothing.
 use native.Mathlib.Omega.{arith}
 use borrow.Author.Needs.{needs}
 use mathlib.Core.Path.{_≡_, refl, sym, _∙_}
@@ -6,8 +6,8 @@ use Prim.Native.Nat.{_+_, _-_}
 use lib.ListN.{length, drop}
 use Rattle.laws.specs.Test.{below}
 use Rattle.laws.specs.Cells.{below-further, below-ends, below-done}
-use Rattle.machine.proofs.memories.within.Statement.{statement}
-use Rattle.machine.proofs.memories.within.Tie as tie
+use Rattle.guards.proofs.memories.within.Statement.{statement}
+use Rattle.guards.proofs.memories.within.Tie as tie
 
 abbrev Inv-loop : tie.InvT-loop
 Inv-loop xs most i₀ i = below (most + 1) xs ≡ below (most + 1) (drop i xs)

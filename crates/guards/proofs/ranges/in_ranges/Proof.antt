@@ -1,14 +1,14 @@
--- `machine::guards::in_ranges` meets its contract. Assumes nothing.
+-- `guards::ranges::in_ranges` meets its contract. Assumes nothing.
 use mathlib.Core.Path.{_∙_}
-use Rattle.machine.proofs.guards.Laws.{three-fail, three-pass}
+use Rattle.guards.proofs.ranges.Laws.{three-fail, three-pass}
 use mathlib.Core.List.{[]}
 use lib.ListN.{length}
 use Rattle.laws.specs.Test.{test}
 use Rattle.state.specs.State.{state}
 use Rattle.state.specs.Ranges.{inRanges, places, marks, positions, cells}
 use borrow.Author.Needs.{needs}
-use Rattle.machine.proofs.guards.in_ranges.Statement.{statement}
-use Rattle.machine.proofs.guards.in_ranges.Tie as tie
+use Rattle.guards.proofs.ranges.in_ranges.Statement.{statement}
+use Rattle.guards.proofs.ranges.in_ranges.Tie as tie
 
 returns : tie.Need-returns
 unfolding inRanges

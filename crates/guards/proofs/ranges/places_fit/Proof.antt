@@ -1,7 +1,7 @@
--- `machine::guards::places_fit` meets its contract. Assumes nothing.
+-- `guards::ranges::places_fit` meets its contract. Assumes nothing.
 use borrow.Author.Needs.{needs}
-use Rattle.machine.proofs.guards.places_fit.Statement.{statement}
-use Rattle.machine.proofs.guards.places_fit.Tie as tie
+use Rattle.guards.proofs.ranges.places_fit.Statement.{statement}
+use Rattle.guards.proofs.ranges.places_fit.Tie as tie
 
 returns : tie.Need-returns
 returns c = rw (c .before .before .before .before .before .sum-within .ensures)
