@@ -4,25 +4,24 @@ use Prim.Native.Nat.{ℕ, _+_, _*_, _<_, _≤_}
 use mathlib.Core.Path.{_≡_, refl, sym, ap, _∙_}
 use mathlib.Core.Bool.{Bool, true, false}
 use mathlib.Core.List.{List, [], _∷_}
-use mathlib.Core.Logic.{_⊎_, inl, inr}
+use mathlib.Core.Logic.{inl, inr}
 use native.Mathlib.Omega.{arith}
 use borrow.Author.Tests.{eqb-true, eqb-false, eq-eqb}
 use lib.Bits.{bitAnd, and-le-r, and-zero-r}
 use lib.Dec.{eqb}
-use lib.ListN.{length, getD, set, replicate, length-set, length-replicate, getD-replicate}
+use lib.ListN.{getD, set, replicate, length-set, length-replicate, getD-replicate}
 use lib.Seq.{getD-set-same, getD-set-other}
-use Rattle.laws.specs.Choice.{pick, either}
-use Rattle.laws.specs.Test.{test, Holds}
+use Rattle.laws.specs.Choice.{pick}
+use Rattle.laws.specs.Test.{Holds}
 use Rattle.words.specs.declared.Config.{Config}
 use Rattle.words.specs.Configs.{lawful}
-use Rattle.words.specs.Lookup.{entryAt, entryKind}
+use Rattle.words.specs.Lookup.{entryAt}
 use Rattle.state.specs.declared.Change.{Change}
 use Rattle.state.specs.State.{Env, State}
 use Rattle.state.specs.Operands.{viewOf}
-use Rattle.state.specs.Stops.{factsAt}
 use Rattle.state.specs.Step.{cyclesOf}
 use Rattle.state.proofs.Ranges.{Good}
-use Rattle.cells.specs.Cell.{actionIn, cyclesIn, cellOf, Inside}
+use Rattle.cells.specs.Cell.{actionIn, cyclesIn, Inside}
 use Rattle.cells.proofs.Cells.{cell-inside, zero-inside, cell-carries, cell-cycles, cell-told, CellCase, refused, switched-on, switched-off, carried}
 use Rattle.machine.specs.Exec.{Acts}
 use Rattle.machine.specs.Cached.{cellAt, Kept, Cached}

@@ -3,33 +3,30 @@
 use Prim.Native.Nat.{ℕ, _/_, _%_, _<_}
 use mathlib.Core.Path.{_≡_, refl, sym, ap, _∙_}
 use mathlib.Core.Bool.{Bool, true, false, not, _&&_}
-use mathlib.Core.List.{List, [], _∷_, _++_}
-use native.Mathlib.Omega.{arith}
+use mathlib.Core.List.{[], _∷_, _++_}
 use borrow.Author.Tests.{lt-ltb, ne-eqb}
-use lib.Dec.{T, eqb, ltb}
+use lib.Dec.{T, eqb}
 use lib.ListN.{getD}
 use Rattle.laws.specs.Choice.{pick, true-is}
-use Rattle.laws.specs.Test.{test, Holds, holds, and-left, and-right}
+use Rattle.laws.specs.Test.{test, Holds, and-left, and-right}
 use Rattle.laws.specs.First.{first-failing, first-append, numbered, obeyed}
 use Rattle.laws.specs.Table.{every, at-every}
 use Rattle.words.specs.declared.Config.{Config}
 use Rattle.words.specs.declared.Form.{Form}
 use Rattle.words.specs.declared.Instruction.{Instruction}
-use Rattle.words.specs.declared.Operation.{Operation}
 use Rattle.words.specs.Parts.{Part, count, bank-address, is, inRange, never, needs}
-use Rattle.words.specs.Kinds.{Kind, Condition, marksOf, compute, counted, enter-bank}
+use Rattle.words.specs.Kinds.{Kind, Condition, marksOf}
 use Rattle.words.specs.Frames.{frameOf}
 use Rattle.words.specs.Rows.{rows, rowCount, rowAt}
 use Rattle.words.specs.Words.{refusals567, fits, answered, partsOf, readBy, readLawful}
 use Rattle.words.specs.Claims.{understood}
 use Rattle.words.specs.Facts.{factsFor, factsOf}
 use Rattle.words.specs.Codes.{formAt, conditionAt}
-use Rattle.words.specs.Actions.{Action, actions}
+use Rattle.words.specs.Actions.{actions}
 use Rattle.words.specs.Lookup.{actionAt, entryAt, entryKind}
 use Rattle.words.proofs.RoundTrip.{decoded}
-use Rattle.words.proofs.Checks.{entry-kind, is-it, needs-it, isnt-it}
+use Rattle.words.proofs.Checks.{entry-kind, is-it, needs-it}
 use Rattle.words.proofs.Lookup.{read-row}
-use Rattle.state.specs.declared.Change.{Change}
 use Rattle.state.specs.State.{Env, State}
 use Rattle.state.specs.Cores.{stopped}
 use Rattle.state.specs.Operands.{viewOf}

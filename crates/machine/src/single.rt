@@ -89,21 +89,22 @@ fn reveal(c: Config, m: Core, x: u64, registers: &mut [u32]) -> Turns
     stopped(m, 8)
 }
 
-// Steps from PC on, to the budget, to a stop, or to one that is made apart; at least one, unless it is stopped. x is the cell of the word at PC, and kept among the cells.
+// Steps from PC on, to the budget, to a stop, or to one that is made apart; at least one, unless it is stopped. x is the cell of the word at PC, and kept among the
+// cells. The loop is compiled into this function, and the order of the parameters decides what stays in registers: see docs/landings/base-7-decode.md.
 pub fn by_cell(
-    c: Config,
-    m: Core,
-    x: u64,
+    registers: &mut [u32],
     mask: usize,
+    c: Config,
+    memory: &mut [u32],
+    budget: u64,
+    x: u64,
+    m: Core,
     cells: &[u64],
-    image: &[u32],
     inputs: &[u32],
     stack: &mut [u32],
-    registers: &mut [u32],
-    memory: &mut [u32],
+    image: &[u32],
     addresses: &mut [u32],
     values: &mut [u32],
-    budget: u64,
 ) -> Turns
     requires { ⌜ (length (now stack) ≡ 63) × Good (env c (now image) (now inputs)) (state m (now stack) (now registers) (now memory) (now addresses) (now values)) × (m .pc < c .imsize) × (getD (now image) (m .pc) 0 < 4294967296) × (x ≡ cellOf c (getD (now image) (m .pc) 0)) × Cached c (now image) mask (now cells) × (cellAt mask (now cells) (m .pc) ≡ x) × (0 < budget) × (budget ≤ 1000000) ⌝ }
     ensures { λ r. ⌜ Went budget (env c (now (image .entry)) (now (inputs .entry))) (state m (now (stack .entry)) (now (registers .entry)) (now (memory .entry)) (now (addresses .entry)) (now (values .entry))) (state (r .core) (now (stack .exit)) (now (registers .exit)) (now (memory .exit)) (now (addresses .exit)) (now (values .exit))) r ⌝ }

@@ -11,7 +11,7 @@ use crate::advance::advance;
 use state::Core;
 use words::Config;
 
-// Steps to the budget, to a stop, or to a step that is made apart. The order of the parameters matters to the compiled loop.
+// Steps to the budget, to a stop, or to a step that is made apart.
 pub fn stretch(
     registers: &mut [u32],
     cells: &[u64],

@@ -51,19 +51,19 @@ pub fn once(
     let x = cells::decode(c, cell(image, pc));
     let pair: [u64; 2] = [pc as u64, x];
     by_cell(
-        c,
-        m,
-        x,
+        registers,
         0,
+        c,
+        memory,
+        1,
+        x,
+        m,
         &pair,
-        image,
         inputs,
         stack,
-        registers,
-        memory,
+        image,
         addresses,
         values,
-        1,
     )
 }
 
@@ -153,19 +153,19 @@ fn turning(
         fill(c, image, mask, pc + 1, cells, ahead(budget - done - 1));
         keep(c, image, mask, pc, x, cells);
         let t = by_cell(
-            c,
-            core,
-            x,
+            registers,
             mask,
+            c,
+            memory,
+            budget - done,
+            x,
+            core,
             cells,
-            image,
             inputs,
             stack,
-            registers,
-            memory,
+            image,
             addresses,
             values,
-            budget - done,
         );
         let next = t.core;
         core = next;

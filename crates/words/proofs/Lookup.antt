@@ -9,7 +9,6 @@ use native.Mathlib.Nat.{not-suc-le-zero}
 use native.Mathlib.Omega.{arith}
 use borrow.Author.Tests.{ltb-true, ltb-false}
 use lib.Dec.{T, leb, leb→le, ltb, ltb→lt, eqb, eqb→eq}
-use lib.Bits.{bitAnd, and-mask}
 use lib.ListN.{List·getD-eq-default}
 use Rattle.laws.specs.Choice.{pick, either}
 use Rattle.laws.specs.Test.{_and_, test, Holds, holds, Member, imp, imp-use, eq→eqb, and-left, and-right}
@@ -310,15 +309,3 @@ row-few k f h =
     either (λ m. m < 256) (ltb c index) c (lookup (choices c) (codeAt (fieldOf c) f))
     (λ t. let l = ltb→lt c index t in omega arith)
     (λ _. few (choices c) _ (choices-few c))
-
--- REG_SIZE is a power of two
-land-at : (size x : ℕ) → Member size registerSizes → bitAnd x (size - 1) ≡ x % size
-land-at size x (inl e) = rw e (and-mask x 3)
-land-at size x (inr (inl e)) = rw e (and-mask x 4)
-land-at size x (inr (inr (inl e))) = rw e (and-mask x 5)
-land-at size x (inr (inr (inr (inl e)))) = rw e (and-mask x 6)
-land-at size x (inr (inr (inr (inr e)))) = rw e (and-mask x 7)
-
-pub land-size : (c : Config) (x : ℕ) → Holds (lawful c) → bitAnd x (c .regsize - 1) ≡ x % c .regsize
-unfolding lawful
-land-size c x h = land-at (c .regsize) x (h .1 .0 .1)

@@ -6,19 +6,6 @@ ghost use Rattle.words.specs.Lookup.{entryTable, uppers, lowers};
 use crate::Config;
 use crate::columns::ENTRIES;
 
-// The digits of an entry: its check, its condition, the form of its immediate, its action.
-pub const CHECKS: u32 = 64;
-
-pub const CONDITION: u32 = 0x100;
-
-pub const CONDITIONS: u32 = 16;
-
-pub const FORM: u32 = 0x1000;
-
-pub const FORMS: u32 = 4;
-
-pub const ACTION: u32 = 0x4000000;
-
 // The entry of each row; past the rows none.
 pub fn entry_table() -> [u32; 256]
     ensures { λ r. ⌜ r ≡ entryTable ⌝ }

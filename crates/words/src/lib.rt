@@ -10,7 +10,7 @@ mod columns;
 pub mod configuration;
 pub mod decode;
 pub mod encode;
-pub mod entries;
+mod entries;
 pub mod layout;
 mod masks;
 pub mod meaning;

@@ -1,20 +1,19 @@
 -- What exec.rt does, by kind, is `act`: laws over variables.
 -- Assumes nothing.
-use Prim.Native.Nat.{ℕ, zero, suc, _+_, _-_, _*_, _/_, _%_, _^_, _<_, _≤_}
+use Prim.Native.Nat.{ℕ, zero, suc, _+_, _-_, _*_, _/_, _%_, _<_, _≤_}
 use native.Mathlib.Omega.{arith}
-use native.Mathlib.Nat.{mod-eq-of-lt, le-of-lt, add-zero, lt-of-lt-of-le}
+use native.Mathlib.Nat.{mod-eq-of-lt, le-of-lt, add-zero}
 use mathlib.Core.Path.{_≡_, refl, sym, ap, _∙_}
 use mathlib.Core.Bool.{Bool, true, false, _&&_}
-use lib.Dec.{T, eqb, ltb, leb}
+use lib.Dec.{eqb, ltb, leb}
 use lib.ListN.{length, getD}
 use Rattle.laws.specs.Choice.{pick}
 use Rattle.laws.specs.Test.{imp}
 use Rattle.words.specs.declared.Instruction.{Instruction}
 use Rattle.words.specs.declared.Form.{Form}
-use Rattle.words.specs.declared.Form.the-variants.{Signed}
 use Rattle.words.specs.declared.Operation.{Operation}
 use Rattle.words.specs.Kinds.{Operand, from-register, literal, counted, Condition, Z, NZ, GT, LT, GE, LE, NIRQ, B0, B1, NB0, NB1, BIO}
-use Rattle.words.specs.Kinds.{Kind, marksOf, unsupported, compute, compare, multiply, bytewise, load-index, index-store, index-load, move, load-constant, load-register, load-direct, store-register, store-direct, port-read, port-modify, port-write, jump, branch, jump-register, branch-register, call, call-register, ret, ret-constant, enter-bank, leave-bank}
+use Rattle.words.specs.Kinds.{Kind, marksOf, compute, compare, multiply, bytewise, load-index, index-store, index-load, move, load-constant, load-register, load-direct, store-register, store-direct, port-read, port-modify, port-write, jump, branch, jump-register, branch-register, call, call-register, ret, ret-constant, enter-bank, leave-bank}
 use Rattle.words.specs.Facts.{factsFor}
 use Rattle.words.specs.Actions.{flag′, destination′, source′}
 use Rattle.words.specs.Lookup.{actionKind, entryKind, reads}

@@ -7,7 +7,7 @@ use mathlib.Core.List.{List, [], _∷_}
 use mathlib.Core.Logic.{_⊎_, inl, inr}
 use native.Mathlib.Nat.{mod-eq-of-lt}
 use native.Mathlib.Omega.{arith}
-use borrow.Author.Tests.{eqb-true, eqb-false, eq-eqb, ne-eqb}
+use borrow.Author.Tests.{eqb-true}
 use lib.Dec.{T, eqb}
 use lib.ListN.{getD, set, length-set}
 use Rattle.laws.specs.Choice.{pick}
@@ -18,7 +18,7 @@ use Rattle.words.specs.declared.Instruction.{Instruction}
 use Rattle.words.specs.Kinds.{Kind, Condition, marksOf, move, enter-special, leave-special}
 use Rattle.words.specs.Words.{readLawful}
 use Rattle.words.specs.Claims.{understood}
-use Rattle.words.specs.Facts.{factsFor, factsOf}
+use Rattle.words.specs.Facts.{factsFor}
 use Rattle.words.specs.Codes.{formAt, conditionAt}
 use Rattle.words.specs.Actions.{actions}
 use Rattle.words.specs.Lookup.{actionAt, actionKind, entryAt, entryKind}

@@ -13,7 +13,7 @@ use Rattle.state.specs.State.{Env, State}
 use Rattle.state.specs.Ranges.{guards, budgetFits}
 use Rattle.state.specs.Stops.{factsAt}
 use Rattle.state.specs.Step.{Outcome, refused, applied, planAt, cyclesOf, advanceOf, stepOf}
-use Rattle.state.specs.Run.{Run, ended, after, runOf, runCall}
+use Rattle.state.specs.Run.{ended, after, runOf, runCall}
 use Rattle.machine.specs.Stepping.{End, endOf}
 
 pub step-refused : (e : Env) (s : State) (n : ℕ) → n ≡ first-failing (guards e s) → (n ≡ 0 → ⊥) → refused n s ≡ stepOf e s

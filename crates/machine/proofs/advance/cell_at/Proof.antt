@@ -1,7 +1,6 @@
 -- `machine::advance::cell_at` meets its contract. Assumes nothing.
-use Prim.Native.Nat.{_+_, _*_, _<_, _≤_}
 use native.Mathlib.Omega.{arith}
-use lib.Bits.{bitAnd, and-le-r}
+use lib.Bits.{and-le-r}
 use Rattle.laws.specs.Choice.{pick}
 use borrow.Author.Tests.{eq-eqb, ne-eqb}
 use Rattle.machine.specs.Cached.{cellAt}

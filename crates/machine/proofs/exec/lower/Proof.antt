@@ -3,7 +3,6 @@ use Prim.Native.Nat.{_+_}
 use native.Mathlib.Omega.{arith}
 use mathlib.Core.Path.{ap, _∙_}
 use lib.ListN.{getD}
-use borrow.Author.Needs.{needs}
 use Rattle.machine.proofs.exec.lower.Statement.{statement}
 use Rattle.machine.proofs.exec.lower.Tie as tie
 

@@ -1,5 +1,4 @@
 -- `machine::stepping::step_lent` meets its contract. Assumes nothing.
-use native.Mathlib.Omega.{arith}
 use mathlib.Core.Path.{sym, _∙_}
 use Rattle.state.specs.State.{env, state}
 use Rattle.state.proofs.Ranges.{accepted}

@@ -1,7 +1,6 @@
 -- `machine::turning::ends` meets its contract. Assumes nothing.
-use mathlib.Core.Bool.{true, false}
+use mathlib.Core.Bool.{false}
 use mathlib.Core.Logic.{inl, inr}
-use mathlib.Core.Path.{refl}
 use borrow.Author.Tests.{ltb-true, ltb-false}
 use Rattle.laws.specs.Choice.{true-is}
 use Rattle.machine.proofs.turning.ends.Statement.{statement}

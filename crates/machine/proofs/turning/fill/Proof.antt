@@ -6,7 +6,6 @@ use lib.Bits.{and-le-r}
 use lib.ListN.{length}
 use Rattle.cells.specs.Cell.{cellOf}
 use Rattle.machine.specs.Cached.{Cached}
-use borrow.Author.Needs.{needs}
 use Rattle.machine.proofs.turning.fill.Statement.{statement}
 use Rattle.machine.proofs.turning.fill.Tie as tie
 

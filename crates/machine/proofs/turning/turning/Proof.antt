@@ -63,7 +63,7 @@ keep-requires : tie.Need-keep-requires Inv-loop μ-loop
 keep-requires c κs = (c .before .before .before .fill .ensures, c .before .before .before .before .before .before .before .before .if1 .left, (rw (← c .before .before .before .before .before .before .before .cell .ensures) (omega (arith, c .before .before .before .before .before .before .before .cell .ok))), (c .before .before .before .before .before .before .decode .ensures (c .before .before .before .before .before .before .before .before .before .before .before .before .before .before .before .before .before .before .before .before .pre .2 .lawful) ∙ ap (cellOf (c .before .before .before .before .before .before .before .before .before .before .before .before .before .before .before .before .before .before .before .before .args .c)) (c .before .before .before .before .before .before .before .cell .ensures)))
 
 sub-by-cell : tie.Need-sub-by-cell Inv-loop μ-loop
-sub-by-cell c = omega (arith, c .before .before .before .before .before .before .before .before .before .before .before .before .before .before .before .before .before .before .before .loop-test .taken)
+sub-by-cell c = omega (arith, c .before .before .before .before .before .before .before .before .before .before .before .before .before .before .before .loop-test .taken)
 
 by-cell-requires : tie.Need-by-cell-requires Inv-loop μ-loop
 by-cell-requires c κs = (c .before .before .before .before .before .before .before .before .before .before .before .before .before .before .before .before .before .before .before .before .loop .inv .0 .lengths .stack ∙ c .before .before .before .before .before .before .before .before .before .before .before .before .before .before .before .before .before .before .before .before .before .before .before .before .before .before .before .before .before .pre .1, c .before .before .before .before .before .before .before .before .before .before .before .before .before .before .before .before .before .before .before .before .loop .inv .0 .good, c .before .before .before .before .before .before .before .before .before .before .before .before .before .before .before .before .before .if1 .left, (rw (← c .before .before .before .before .before .before .before .before .before .before .before .before .before .before .before .before .cell .ensures) (omega (arith, c .before .before .before .before .before .before .before .before .before .before .before .before .before .before .before .before .cell .ok))), (c .before .before .before .before .before .before .before .before .before .before .before .before .before .before .before .decode .ensures (c .before .before .before .before .before .before .before .before .before .before .before .before .before .before .before .before .before .before .before .before .before .before .before .before .before .before .before .before .before .pre .2 .lawful) ∙ ap (cellOf (c .before .before .before .before .before .before .before .before .before .before .before .before .before .before .before .before .before .before .before .before .before .before .before .before .before .before .before .before .before .args .c)) (c .before .before .before .before .before .before .before .before .before .before .before .before .before .before .before .before .cell .ensures)), c .before .before .before .before .before .before .before .before .keep .ensures .0, c .before .before .before .before .before .before .before .before .keep .ensures .1, omega (arith, c .before .before .before .before .before .before .before .before .before .before .before .before .before .before .before .before .before .before .before .loop-test .taken), omega (arith, c .before .before .before .before .before .before .before .before .before .before .before .before .before .before .before .before .before .before .before .before .before .before .before .before .before .before .before .before .before .pre .3))
