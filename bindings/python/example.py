@@ -1,3 +1,4 @@
+#!/usr/bin/env python3
 """Loads an image file, runs it from reset and prints what the run answers and the registers.
 
 usage: example.py FILE [BUDGET]"""
