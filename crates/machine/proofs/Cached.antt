@@ -20,7 +20,7 @@ use Rattle.state.specs.declared.Change.{Change}
 use Rattle.state.specs.State.{Env, State}
 use Rattle.state.specs.Operands.{viewOf}
 use Rattle.state.specs.Step.{cyclesOf}
-use Rattle.state.proofs.Ranges.{Good}
+use Rattle.state.specs.Good.{Good}
 use Rattle.cells.specs.Cell.{actionIn, cyclesIn, Inside}
 use Rattle.cells.proofs.Cells.{cell-inside, zero-inside, cell-carries, cell-cycles, cell-told, CellCase, refused, switched-on, switched-off, carried}
 use Rattle.machine.specs.Exec.{Acts}

@@ -6,17 +6,24 @@ use Rattle.state.specs.State.{Env, State}
 use Rattle.state.specs.Step.{Outcome, refused, stepOf}
 use Rattle.state.specs.Run.{ended, runCall}
 use Rattle.state.proofs.Unchanged as unchanged
-use Rattle.state.proofs.Run.{run-splits, run-cycles}
+use Rattle.state.proofs.StaysValid.{step-valid}
+use Rattle.state.proofs.Run.{run-cycles}
+use Rattle.state.proofs.Calls.{run-by-steps, run-splits}
 use Rattle.machine.specs.Stepping.{End, endOf}
 use Rattle.machine.specs.Claims.{Steps, StepsLent, Runs, RunsLent}
 
 pub steps : (e : Env) (s : State) (o : Outcome) → o ≡ stepOf e s → Steps e s o
-steps e s o q = record { answer = q; refused-stays = unchanged.refused-stays; cells-stay = unchanged.cells-stay }
+steps e s o q =
+    record {
+      answer = q;
+      refused-stays = unchanged.refused-stays;
+      cells-stay = unchanged.cells-stay;
+      stays-valid = step-valid;
+    }
 
 pub runs : (budget : ℕ) (e : Env) (s : State) (x : End) → x ≡ endOf (runCall budget e s) → Runs budget e s x
 runs budget e s x q =
-    let c = run-cycles budget e s in
-    record { answer = q; least = rw q (c .least); most = rw q (c .most); splits = run-splits }
+    record { answer = q; by-steps = run-by-steps; splits = run-splits; cycles = run-cycles }
 
 -- on a lent return stack, by its length
 

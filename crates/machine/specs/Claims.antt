@@ -1,11 +1,11 @@
 -- What the public calls promise: one equation each, and what is proved of the definitions beside it.
-use Prim.Native.Nat.{ℕ, _*_, _≤_}
+use Prim.Native.Nat.{ℕ}
 use mathlib.Core.Path.{_≡_}
 use lib.ListN.{length}
 use Rattle.state.specs.State.{Env, State}
 use Rattle.state.specs.Step.{Outcome, refused, stepOf}
 use Rattle.state.specs.Run.{ended, runCall}
-use Rattle.state.specs.Claims.{RefusedStays, CellsStay, RunSplits}
+use Rattle.state.specs.Claims.{RefusedStays, CellsStay, StepValid, RunBySteps, RunSplits, RunCycles}
 use Rattle.machine.specs.Stepping.{End, endOf}
 
 -- `step` from s leaves and answers o
@@ -13,6 +13,7 @@ pub record Steps (e : Env) (s : State) (o : Outcome) : Type 0 where
   pub answer : o ≡ stepOf e s
   pub refused-stays : RefusedStays
   pub cells-stay : CellsStay
+  pub stays-valid : StepValid
 
 -- `step_lent` does the same where the lent return stack is 63 cells long; else it answers 2 and leaves all as it was
 pub record StepsLent (e : Env) (s : State) (o : Outcome) : Type 0 where
@@ -22,9 +23,9 @@ pub record StepsLent (e : Env) (s : State) (o : Outcome) : Type 0 where
 -- `run` from s with this budget leaves and answers x
 pub record Runs (budget : ℕ) (e : Env) (s : State) (x : End) : Type 0 where
   pub answer : x ≡ endOf (runCall budget e s)
-  pub least : 2 * x .steps ≤ x .cycles
-  pub most : x .cycles ≤ 3 * x .steps
+  pub by-steps : RunBySteps
   pub splits : RunSplits
+  pub cycles : RunCycles
 
 -- and so does `run_lent`
 pub record RunsLent (budget : ℕ) (e : Env) (s : State) (x : End) : Type 0 where

@@ -9,7 +9,7 @@ use Rattle.state.specs.Step.{Outcome, advanceOf, cyclesOf}
 use Rattle.state.specs.Stops.{factsAt}
 use Rattle.state.specs.Cores.{stopped}
 use Rattle.state.specs.Run.{runOf}
-use Rattle.state.proofs.Ranges.{Good}
+use Rattle.state.specs.Good.{Good}
 use Rattle.cells.specs.Cell.{actionIn, valueIn}
 use Rattle.machine.specs.declared.Decision.{Decision}
 use Rattle.machine.specs.declared.Turn.{Turn}

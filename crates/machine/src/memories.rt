@@ -4,7 +4,7 @@ ghost use Prim.Native.Nat.{_<_};
 ghost use lib.ListN.{getD, length};
 ghost use Rattle.state.specs.State.{state};
 ghost use Rattle.state.specs.Step.{putOf, applied};
-ghost use Rattle.state.proofs.Step.{Inside, Landing};
+ghost use Rattle.state.specs.Landing.{Inside, Landing};
 use state::Change;
 use state::Write;
 

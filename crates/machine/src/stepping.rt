@@ -207,11 +207,11 @@ pub fn run(
         budget,
     );
     let next = r.core;
-    let machine = Machine { core: next, stack };
+    let after = Machine { core: next, stack };
     Ran {
         number: r.number,
         steps: r.steps,
         cycles: r.cycles,
-        machine,
+        machine: after,
     }
 }

@@ -3,7 +3,7 @@ ghost use mathlib.Core.Path.{_≡_};
 ghost use Prim.Native.Nat.{_≤_};
 ghost use lib.ListN.{length};
 ghost use Rattle.state.specs.State.{env, state, stackLimit};
-ghost use Rattle.state.proofs.Ranges.{Good};
+ghost use Rattle.state.specs.Good.{Good};
 ghost use Rattle.machine.specs.Cached.{cellAt, Cached};
 ghost use Rattle.machine.specs.Stretching.{Came};
 use crate::Turns;

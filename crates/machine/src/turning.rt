@@ -9,7 +9,7 @@ ghost use Rattle.laws.specs.Test.{Holds};
 ghost use Rattle.words.specs.Configs.{lawful};
 ghost use Rattle.state.specs.State.{env, state};
 ghost use Rattle.state.specs.Run.{runOf};
-ghost use Rattle.state.proofs.Ranges.{Good};
+ghost use Rattle.state.specs.Good.{Good};
 ghost use Rattle.cells.specs.Cell.{cellOf};
 ghost use Rattle.machine.specs.Cached.{cellAt, Cached};
 ghost use Rattle.machine.specs.Stepping.{endOf, turnsEnd};

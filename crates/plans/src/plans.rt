@@ -22,6 +22,7 @@ use crate::values::wide;
 use crate::values::with_top_bit;
 use state::Change;
 use state::Core;
+use state::Machine;
 use state::Write;
 use words::Config;
 use words::Operation;
@@ -304,7 +305,7 @@ pub fn leave_bank(c: Config, m: Core, x: u32) -> Change
 pub fn enter_special(m: Core) -> Change
     ensures { λ r. ⌜ r ≡ moved (masked (onward m) 15 (m .imask) 1) ⌝ }
 {
-    next(m).masked(15, m.imask, 1).moved()
+    next(m).masked(Machine::MASK_MOST, m.imask, 1).moved()
 }
 
 // SPR_OFF.

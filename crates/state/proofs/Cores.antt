@@ -8,7 +8,7 @@ use Rattle.words.specs.declared.Config.{Config}
 use Rattle.state.specs.declared.Core.{Core}
 use Rattle.state.specs.State.{stackLimit}
 use Rattle.state.specs.Cores.{at, posting, flagged, indexed, multiplied, deep, masked, banked, taking, logging}
-use Rattle.state.proofs.Ranges.{InBank, Indices, Flags, Masks, High, Posted, Ranged}
+use Rattle.state.specs.Good.{InBank, Indices, Flags, Masks, High, Posted, Ranged}
 
 module _ {c : Config} {inputs room : ℕ} where
   -- the fields in their order

@@ -1,3 +1,4 @@
+pub mod Destinations
 pub mod Unchanged
 pub mod Run
 pub mod Ranges
@@ -6,3 +7,5 @@ pub mod Cores
 pub mod Step
 pub mod Plans
 pub mod StaysValid
+pub mod Calls
+pub mod Lengths

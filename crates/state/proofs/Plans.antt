@@ -31,10 +31,12 @@ use Rattle.state.specs.Operands.{View, viewOf, cell, register, dataAddre
 use Rattle.state.specs.Plans.{advanced, contextOf, registerTarget, D, S, X, M, result, comparePlan, computePlan, multiplyPlan, loadIndexPlan, indexCore, indexStorePlan, indexLoadPlan, movePlan, loadConstantPlan, loadRegisterPlan, loadDirectPlan, storeRegisterPlan, storeDirectPlan, portReadPlan, portWritePlan, portModifyPlan, jumpPlan, branched, branchPlan, jumpRegisterPlan, branchRegisterPlan, called, callPlan, callRegisterPlan, newest, returned, retPlan, retConstantPlan, enterBankPlan, leaveBankPlan, enterSpecialPlan, leaveSpecialPlan, planOf}
 use Rattle.state.specs.Stops.{stops9to15, partsAt, kindAt}
 use Rattle.state.specs.Step.{putOf, planAt}
-use Rattle.state.proofs.Ranges.{Bounds, bounds, top-byte, Indices, InBank, Posted, Ranged, Good}
+use Rattle.state.specs.Good.{Indices, InBank, Posted, Ranged, Good}
+use Rattle.state.proofs.Ranges.{Bounds, bounds, top-byte}
 use Rattle.state.proofs.Stops.{counts, tells, a-register, a-target, an-entry, an-address, a-count, with-banks, Told}
 use Rattle.state.proofs.Cores.{kept-at, kept-banked, kept-indexed, kept-flagged, kept-multiplied, kept-deep, kept-masked, kept-posting, kept-taking, kept-logging}
-use Rattle.state.proofs.Step.{Small, Inside, Sound}
+use Rattle.state.specs.Landing.{Inside}
+use Rattle.state.proofs.Step.{Small, Sound}
 
 -- a write of a small value, and none
 wrote : {b i v : ℕ} → v < b → Small b (write i v)

@@ -1,25 +1,24 @@
 -- What it tells of a configuration that it is lawful, and of a state that 1, 2 and 3 let pass it, in facts with names; and the way back.
 -- Assumes nothing.
-use Prim.Native.Nat.{ℕ, _+_, _-_, _*_, _%_, _<_, _≤_}
+use Prim.Native.Nat.{ℕ, _-_, _*_, _<_, _≤_}
 use mathlib.Core.Path.{_≡_}
 use mathlib.Core.Logic.{_⊎_, inl, inr}
 use mathlib.Core.List.{List}
 use native.Mathlib.Omega.{arith}
 use lib.Dec.{T, eqb, eqb→eq}
-use lib.ListN.{length, drop}
 use lib.Pow.{pow-mono}
 use Rattle.laws.specs.Choice.{either}
-use Rattle.laws.specs.Test.{most, _and_, test, Holds, holds, Member, Below, eq→eqb}
+use Rattle.laws.specs.Test.{most, _and_, test, Holds, holds, Member, eq→eqb}
 use Rattle.laws.specs.First.{first-failing, numbered, obeyed, none-fails}
 use Rattle.laws.specs.Lists.{all, all-at, _also_}
 use Rattle.words.specs.declared.Config.{Config}
 use Rattle.words.specs.Configs.{widths, registerSizes, bankSizes, dataSizes, lawful}
 use Rattle.arith.specs.Width.{bits}
 use Rattle.arith.specs.Fits.{bits-lawful, bits-width}
-use Rattle.state.specs.declared.Core.{Core}
 use Rattle.state.specs.State.{Env, State, top, stackLimit}
 use Rattle.state.specs.Ranges.{inRanges, guards}
 use Rattle.state.specs.Claims.{Valid}
+use Rattle.state.specs.Good.{Good}
 
 -- Of a lawful configuration
 
@@ -98,60 +97,7 @@ bounds c h =
 pub top-byte : (c : Config) → 256 ≤ top c
 top-byte c = pow-mono {i = 8} {j = bits (c .regwidth)} (bits-width (c .regwidth) .least)
 
--- Of a core in its ranges, a field for each of the small changes of specs/Cores.antt
-
-pub record InBank (c : Config) (wp : ℕ) : Type 0 where
-  pub whole : wp % 16 ≡ 0
-  pub inside : wp + c .regsize ≤ c .rmsize
-
-pub record Indices (c : Config) (rx ry : ℕ) : Type 0 where
-  pub x : rx < c .regsize
-  pub y : ry < c .regsize
-
-pub record Flags (n z : ℕ) : Type 0 where
-  pub negative : n ≤ 1
-  pub zero : z ≤ 1
-
-pub record Masks (imask saved mode : ℕ) : Type 0 where
-  pub now : imask ≤ 15
-  pub kept : saved ≤ 15
-  pub special : mode ≤ 1
-
-pub record High (c : Config) (spr7 : ℕ) : Type 0 where
-  pub word : spr7 < top c
-  pub none : c .regwidth ≡ 32 → spr7 ≡ 0
-
-pub record Posted (c : Config) (posted port : ℕ) : Type 0 where
-  pub mark : posted ≤ 1
-  pub word : port < top c
-  pub none : posted ≡ 0 → port ≡ 0
-
--- under configuration c, with so many inputs, and so much room in the log
-pub record Ranged (c : Config) (inputs room : ℕ) (m : Core) : Type 0 where
-  pub pc : m .pc < 0x800000
-  pub bank : InBank c (m .wp)
-  pub indices : Indices c (m .rx) (m .ry)
-  pub flags : Flags (m .n) (m .z)
-  pub high : High c (m .spr7)
-  pub depth : m .depth ≤ stackLimit (c .pcstack)
-  pub masks : Masks (m .imask) (m .saved) (m .mode)
-  pub posted : Posted c (m .posted) (m .port)
-  pub taken : m .taken ≤ inputs
-  pub logged : m .logged ≤ room
-
--- Of a valid state
-
-pub record Good (e : Env) (s : State) : Type 0 where
-  pub lawful : Holds (lawful (e .config))
-  pub image : length (e .image) ≡ e .config .imsize
-  pub registers : length (s .registers) ≡ e .config .rmsize
-  pub memory : length (s .memory) ≡ e .config .dmsize
-  pub log : length (s .addresses) ≡ length (s .values)
-  pub core : Ranged (e .config) (length (e .inputs)) (length (s .addresses)) (s .core)
-  pub addresses : Below (e .config .imsize + 1) (s .stack)
-  pub zeros : Below 1 (drop (s .core .depth) (s .stack))
-  pub cells : Below (top (e .config)) (s .registers)
-  pub words : Below (top (e .config)) (s .memory)
+-- Of a state: the facts with names are what 1, 2 and 3 test
 
 pub good : (e : Env) (s : State) → Valid e s → Good e s
 unfolding guards inRanges

@@ -5,7 +5,6 @@ use Prim.Native.Nat.{ℕ, zero, suc, _+_, _≤_}
 use mathlib.Core.Path.{_≡_}
 use mathlib.Core.Bool.{Bool, true, false, not, _&&_, _||_}
 use native.Mathlib.Nat.{add-assoc, zero-add, suc-add}
-use mathlib.Core.List.{_++_, [], _∷_}
 use native.Mathlib.Omega.{arith}
 use lib.Dec.{T, eqb, eqb→eq}
 use Rattle.laws.specs.Choice.{pick, either}
@@ -15,11 +14,11 @@ use Rattle.words.specs.declared.Config.{Config}
 use Rattle.words.specs.declared.Facts.{Facts}
 use Rattle.arith.specs.Fits.{one-le}
 use Rattle.state.specs.State.{Env, State}
-use Rattle.state.specs.Ranges.{guards, budgetFits}
+use Rattle.state.specs.Ranges.{runGuards}
 use Rattle.state.specs.Stops.{factsAt}
 use Rattle.state.specs.Step.{Outcome, refused, number, cyclesOf, advanceOf}
 use Rattle.state.specs.Run.{Run, ended, after, runOf, runCall}
-use Rattle.state.specs.Claims.{joined, RunSplits, CyclesLie, RunCycles}
+use Rattle.state.specs.Claims.{joined, CyclesLie, RunCycles}
 
 -- one step before two runs that are one after the other
 first-step : (b : Bool) (k c : ℕ) (s : State) (long first : Run) (rest : State → Run) →
@@ -31,15 +30,16 @@ unfolding pick
 first-step true k c s long first rest stop split h = rw (split h) (simp add-assoc)
 first-step false k c s long first rest stop split h = absurd (stop (λ t. t) h)
 
-pub run-splits : RunSplits
+-- from a state that 1, 2 and 3 let pass, a run of m + n steps is a run of m and then of n, where the first is not stopped
+pub splits : (m n : ℕ) (e : Env) (s : State) → runOf m e s .number ≡ 0 → runOf (m + n) e s ≡ joined (runOf m e s) (runOf n e (runOf m e s .last))
 unfolding runOf
-run-splits zero n e s h = simp zero-add
-run-splits (suc m) n e s h =
+splits zero n e s h = simp zero-add
+splits (suc m) n e s h =
     let o = advanceOf e s in
     rw (suc-add m n)
     (first-step (eqb (o .number) 0) (o .number) (o .cycles) s (runOf (m + n) e (o .state)) (runOf m e (o .state)) (λ t. runOf n e t)
     (λ f z. f (eq→eqb (o .number) 0 z))
-    (run-splits m n e (o .state))
+    (splits m n e (o .state))
     h)
 
 -- a run takes no more steps than its budget
@@ -91,5 +91,5 @@ run-lies (suc k) e s =
 pub run-cycles : RunCycles
 unfolding runCall
 run-cycles budget e s =
-    let n = first-failing (guards e s ++ ((16, budgetFits budget) ∷ [])) in
+    let n = first-failing (runGuards budget e s) in
     either CyclesLie (eqb n 0) (runOf budget e s) (ended n s) (λ t. run-lies budget e s) (λ f. none-lie n s)

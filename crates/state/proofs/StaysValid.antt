@@ -11,10 +11,12 @@ use Rattle.state.specs.State.{Env, State}
 use Rattle.state.specs.Ranges.{guards}
 use Rattle.state.specs.Step.{Outcome, refused, number, planAt, advanceOf, stepOf}
 use Rattle.state.specs.Run.{Run, ended, after, runOf}
-use Rattle.state.specs.Claims.{Valid, StaysValid}
-use Rattle.state.proofs.Ranges.{Good, good, valid, accepted}
+use Rattle.state.specs.Claims.{Valid, StepValid}
+use Rattle.state.specs.Good.{Good}
+use Rattle.state.proofs.Ranges.{good, valid, accepted}
 use Rattle.state.proofs.Stops.{told}
-use Rattle.state.proofs.Step.{Landing, applied-good}
+use Rattle.state.specs.Landing.{Landing}
+use Rattle.state.proofs.Step.{applied-good}
 use Rattle.state.proofs.Plans.{plan-sound}
 
 pub stays-good : (e : Env) (s : State) → Good e s → Good e (advanceOf e s .state)
@@ -28,11 +30,12 @@ stays-good e s g =
 pub lands : (e : Env) (s : State) → Good e s → number e s ≡ 0 → Landing (e .config .rmsize) (e .config .dmsize) (length (s .addresses)) (planAt e s)
 lands e s g z = plan-sound e s g (told e s z) .landing
 
-pub stays-valid : StaysValid
+-- so 1, 2 and 3 let it pass again
+pub stays-valid : (e : Env) (s : State) → Valid e s → Valid e (advanceOf e s .state)
 stays-valid e s h = valid e (advanceOf e s .state) (stays-good e s (good e s h))
 
 -- what a step hands back is not refused with 1, 2 or 3
-pub step-valid : (e : Env) (s : State) → stepOf e s .number ≡ 0 → Valid e (stepOf e s .state)
+pub step-valid : StepValid
 unfolding stepOf
 step-valid e s =
     let n = first-failing (guards e s) in

@@ -12,23 +12,12 @@ use Rattle.state.specs.declared.Write.{Write}
 use Rattle.state.specs.declared.Change.{Change}
 use Rattle.state.specs.State.{Env, State, top}
 use Rattle.state.specs.Step.{putOf, applied}
-use Rattle.state.proofs.Ranges.{Ranged, Good}
+use Rattle.state.specs.Good.{Ranged, Good}
+use Rattle.state.specs.Landing.{Landing}
 
 -- what is written, if anything, is below b
 pub record Small (b : ℕ) (w : Write) : Type 0 where
   pub below : T (w .on) → w .value < b
-
--- the cell that is written, if any, is one of n
-pub record Inside (n : ℕ) (w : Write) : Type 0 where
-  pub cell : T (w .on) → w .at < n
-
--- every write of a change falls on a cell: of the registers, the data memory, the return stack, the log
-pub record Landing (registers memory room : ℕ) (x : Change) : Type 0 where
-  pub reg : Inside registers (x .reg)
-  pub dm : Inside memory (x .dm)
-  pub stack : Inside 63 (x .stack)
-  pub logat : Inside room (x .logat)
-  pub logval : Inside room (x .logval)
 
 pub record Sound (e : Env) (s : State) (x : Change) : Type 0 where
   pub core : Ranged (e .config) (length (e .inputs)) (length (s .addresses)) (x .core)

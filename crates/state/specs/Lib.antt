@@ -2,8 +2,11 @@ pub mod State
 pub mod Ranges
 pub mod Cores
 pub mod Operands
+pub mod Destinations
 pub mod Plans
 pub mod Stops
 pub mod Step
 pub mod Run
 pub mod Claims
+pub mod Good
+pub mod Landing

@@ -1,6 +1,6 @@
 -- The refusals before a step: 1 configuration, 2 lengths, 3 ranges; and 16, a run's budget. Document 01, 'One step': "A record is in its ranges when".
 use Prim.Native.Nat.{ℕ, _+_, _%_}
-use mathlib.Core.List.{List, [], _∷_}
+use mathlib.Core.List.{List, [], _∷_, _++_}
 use lib.Dec.{eqb}
 use lib.ListN.{length, drop}
 use Rattle.laws.specs.Test.{Test, less, most, same, each, if?, _and_}
@@ -72,3 +72,7 @@ guards e s =
 -- "16: run's step budget above 1,000,000"
 abbrev pub budgetFits : ℕ → Test
 budgetFits b = most b 1000000
+
+-- 1, 2, 3, 16: what a run call is refused by
+abbrev pub runGuards : ℕ → Env → State → List (ℕ × Test)
+runGuards budget e s = guards e s ++ ((16, budgetFits budget) ∷ [])

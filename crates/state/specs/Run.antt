@@ -1,11 +1,11 @@
 -- A run: its steps one by one, to the budget or to the first that is stopped.
 use Prim.Native.Nat.{ℕ, zero, suc, _+_}
-use mathlib.Core.List.{List, [], _∷_, _++_}
+use mathlib.Core.List.{List, [], _∷_}
 use lib.Dec.{eqb}
 use Rattle.laws.specs.Choice.{pick}
 use Rattle.laws.specs.First.{first-failing}
 use Rattle.state.specs.State.{Env, State}
-use Rattle.state.specs.Ranges.{guards, budgetFits}
+use Rattle.state.specs.Ranges.{runGuards}
 use Rattle.state.specs.Step.{advanceOf}
 
 -- What a run answers: number, steps and cycles done, the state it leaves; and the states that its steps were taken from, which with the last are all
@@ -37,6 +37,6 @@ runOf (suc k) e s =
 -- the whole call: 1, 2, 3, 16, then the steps
 unfoldable pub runCall : ℕ → Env → State → Run
 runCall budget e s =
-    let n = first-failing (guards e s ++ ((16, budgetFits budget) ∷ [])) in
+    let n = first-failing (runGuards budget e s) in
     let r = runOf budget e s in
     pick (eqb n 0) r (ended n s)

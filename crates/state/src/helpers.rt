@@ -30,8 +30,8 @@ impl Machine {
             z: 0,
             spr7: 0,
             depth: 0,
-            imask: 15,
-            saved: 15,
+            imask: Machine::MASK_MOST,
+            saved: Machine::MASK_MOST,
             mode: 0,
             posted: 0,
             port: 0,
@@ -40,7 +40,7 @@ impl Machine {
         };
         Machine {
             core,
-            stack: [0; 63],
+            stack: [0; Machine::STACK_CELLS],
         }
     }
 

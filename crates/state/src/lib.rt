@@ -27,7 +27,7 @@ pub struct Core {
 // The machine record: the core and the return stack, oldest address first, zeros above.
 pub struct Machine {
     pub core: Core,
-    pub stack: [u32; 63],
+    pub stack: [u32; Machine::STACK_CELLS],
 }
 
 // A write to one cell of a memory, or none.

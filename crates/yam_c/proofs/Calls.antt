@@ -5,17 +5,18 @@ use mathlib.Core.List.{List, [], _∷_, _++_}
 use Prim.Native.Nat.{ℕ, zero, suc}
 use native.Mathlib.Omega.{arith}
 use borrow.Author.Tests.{eq-eqb, ne-eqb, eqb-false, ltb-false}
-use lib.Dec.{eqb, ltb, leb}
+use lib.Dec.{eqb, ltb}
 use lib.ListN.{length, take, drop}
 use Rattle.laws.specs.Choice.{pick}
-use Rattle.laws.specs.First.{first-failing, first-append}
+use Rattle.laws.specs.First.{first-failing}
 use Rattle.laws.specs.Test.{Holds}
 use Rattle.state.specs.declared.Core.{Core}
 use Rattle.state.specs.State.{Env, State, state}
-use Rattle.state.specs.Ranges.{guards, budgetFits}
+use Rattle.state.specs.Ranges.{guards, runGuards}
 use Rattle.state.specs.Step.{Outcome, refused, advanceOf, stepOf}
 use Rattle.state.specs.Run.{ended, after, runOf, runCall}
 use Rattle.state.proofs.Ranges.{accepted}
+use Rattle.state.proofs.Calls.{step-refused, run-refused}
 use Rattle.machine.specs.Stepping.{End, endOf, machineState}
 use Rattle.machine.specs.Claims.{Steps, StepsLent, Runs, RunsLent}
 use Rattle.certificate.specs.declared.Checked.{Checked}
@@ -56,13 +57,13 @@ idle-steps (suc k) e s h = go (eqb (advanceOf e s .number) 0) h
 
 pub idle : (budget : ℕ) (e : Env) (s : State) (x : End) → x ≡ endOf (runCall budget e s) → ltb 0 (x .steps) ≡ false → x .last ≡ s
 unfolding runCall pick
-idle budget e s x q h = ap (λ (y : End). y .last) q ∙ go (eqb (first-failing (guards e s ++ ((16, budgetFits budget) ∷ []))) 0) none
+idle budget e s x q h = ap (λ (y : End). y .last) q ∙ go (eqb (first-failing (runGuards budget e s)) 0) none
   where
     none : runCall budget e s .steps ≡ 0
     none = let z : x .steps ≡ 0 = omega (arith, ltb-false 0 (x .steps) h) in sym (ap (λ (y : End). y .steps) q) ∙ z
 
-    go : (b : Bool) → pick b (runOf budget e s) (ended (first-failing (guards e s ++ ((16, budgetFits budget) ∷ []))) s) .steps ≡ 0 →
-        pick b (runOf budget e s) (ended (first-failing (guards e s ++ ((16, budgetFits budget) ∷ []))) s) .last ≡ s
+    go : (b : Bool) → pick b (runOf budget e s) (ended (first-failing (runGuards budget e s)) s) .steps ≡ 0 →
+        pick b (runOf budget e s) (ended (first-failing (runGuards budget e s)) s) .last ≡ s
     go true z = idle-steps budget e s z
     go false z = refl
 
@@ -108,19 +109,6 @@ pub outside-refused : (e : Env) (registers memory addresses values : List ℕ) (
 outside-refused e registers memory addresses values n p z =
     omega (arith, accepted e (machineState outside registers memory addresses values) (sym p ∙ z) .core .pc)
 
-step-refused : (e : Env) (s : State) (n : ℕ) → n ≡ first-failing (guards e s) → (n ≡ 0 → ⊥) → refused n s ≡ stepOf e s
-unfolding stepOf pick
-step-refused e s n p h = rw (← p, ne-eqb _ _ h)
-
-run-number : (e : Env) (s : State) (budget n : ℕ) → n ≡ first-failing (guards e s) →
-    first-failing (guards e s ++ ((16, budgetFits budget) ∷ [])) ≡ pick (eqb n 0) (pick (leb budget 1000000) 0 16) n
-unfolding guards
-run-number e s budget n p = first-append (guards e s) ((16, budgetFits budget) ∷ []) tt ∙ rw (← p)
-
-run-refused : (e : Env) (s : State) (budget n : ℕ) → n ≡ first-failing (guards e s) → (n ≡ 0 → ⊥) → endOf (ended n s) ≡ endOf (runCall budget e s)
-unfolding runCall pick
-run-refused e s budget n p h = simp (run-number e s budget n p, ne-eqb _ _ h)
-
 module _ (e : Env) (machine registers memory addresses values answers answers′ : List ℕ) (n : ℕ) (out : machineOf machine ≡ outside)
     (p : n ≡ first-failing (guards e (machineState outside registers memory addresses values))) where
   pub step-misshapen : answers′ ≡ stored answers 0 (0 ∷ []) →
@@ -143,7 +131,7 @@ module _ (e : Env) (machine registers memory addresses values answers answers′
       let h = outside-refused e registers memory addresses values n p in
       rw out
       (run-done (endOf (ended n (machineState outside registers memory addresses values))) _ machine machine answers answers′
-      (run-refused e (machineState outside registers memory addresses values) budget n p h)
+      (ap endOf (run-refused e (machineState outside registers memory addresses values) budget n p h))
       refl
       a)
 

@@ -24,8 +24,9 @@ use Rattle.state.specs.Operands.{View, viewOf}
 use Rattle.state.specs.Plans.{contextOf, advanced, comparePlan, computePlan, multiplyPlan, loadIndexPlan, indexStorePlan, indexLoadPlan, movePlan, loadConstantPlan, loadRegisterPlan, loadDirectPlan, storeRegisterPlan, storeDirectPlan, portReadPlan, portWritePlan, portModifyPlan, jumpPlan, branchPlan, jumpRegisterPlan, branchRegisterPlan, callPlan, callRegisterPlan, retPlan, retConstantPlan, enterBankPlan, leaveBankPlan, enterSpecialPlan, leaveSpecialPlan, planOf}
 use Rattle.state.specs.Stops.{stops9to15, partsAt, kindAt, factsAt, stops}
 use Rattle.state.specs.Step.{number, applied, planAt, cyclesOf, Outcome, refused, advanceOf}
-use Rattle.state.proofs.Ranges.{Good, bounds, top-byte}
-use Rattle.state.proofs.Step.{Landing}
+use Rattle.state.specs.Good.{Good}
+use Rattle.state.proofs.Ranges.{bounds, top-byte}
+use Rattle.state.specs.Landing.{Landing}
 use Rattle.state.proofs.StaysValid.{lands}
 use Rattle.cells.specs.Cell.{Inside}
 use Rattle.machine.specs.Exec.{unless, changeAt, Small, Fit, Placed}

@@ -33,7 +33,7 @@ use Rattle.state.specs.Operands.{viewOf, specialRegister}
 use Rattle.state.specs.Plans.{planOf, movePlan, enterSpecialPlan, leaveSpecialPlan}
 use Rattle.state.specs.Stops.{specials, stop8, stops9to15, factsAt}
 use Rattle.state.specs.Step.{Outcome, applied, putOf, cyclesOf, advanceOf}
-use Rattle.state.proofs.Ranges.{Good}
+use Rattle.state.specs.Good.{Good}
 use Rattle.cells.specs.Cell.{actionIn, destinationIn, sourceIn, valueIn, cellOf, turns-on, first-apart, Carries}
 use Rattle.cells.proofs.Cells.{cell-carries, cell-told, CellCase, refused, switched-on, switched-off, carried}
 use Rattle.plans.specs.Values.{up, onward}

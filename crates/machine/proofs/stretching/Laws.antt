@@ -15,7 +15,7 @@ use Rattle.state.specs.State.{Env, State, state}
 use Rattle.state.specs.Stops.{factsAt}
 use Rattle.state.specs.Step.{Outcome, refused, applied, planAt, cyclesOf, advanceOf}
 use Rattle.state.specs.Run.{Run, ended, after, runOf}
-use Rattle.state.proofs.Ranges.{Good}
+use Rattle.state.specs.Good.{Good}
 use Rattle.state.proofs.StaysValid.{stays-good}
 use Rattle.state.proofs.Run.{step-cycles}
 use Rattle.cells.specs.Cell.{actionIn, valueIn}
