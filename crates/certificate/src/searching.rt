@@ -8,9 +8,9 @@ ghost use Rattle.laws.specs.Choice.{pick};
 ghost use Rattle.laws.specs.Test.{imp, Holds};
 ghost use Rattle.rules.specs.Marks.{markAt, levelOf};
 ghost use Rattle.rules.specs.Rules.{readsPort};
-ghost use Rattle.rules.specs.Claims.{Checks};
 ghost use Rattle.rules.specs.Check.{passed, lowest, firstBroken, checkOf};
 ghost use Rattle.certificate.specs.Answers.{answerOf};
+ghost use Rattle.certificate.specs.Claims.{Checks};
 ghost use Rattle.state.specs.State.{stackLimit};
 ghost use Rattle.words.specs.Configs.{lawful};
 ghost use Rattle.words.specs.Lookup.{Limits};
@@ -181,7 +181,7 @@ fn check_answer(c: Config, image: &[u32], certificate: &[u8]) -> Checked
 }
 
 // The check of a certificate: exactly when it passes, the configuration is lawful, the lengths are right and the eight rules hold; and then demand 3
-// holds of the program, with the level that it answers.
+// holds of the program, of every list of calls of `step` and `run`, with the level that it answers.
 pub fn check(c: Config, image: &[u32], certificate: &[u8]) -> Checked
     ensures { λ r. ⌜ Checks c (now (image .entry)) (now (certificate .entry)) (answerOf r) ⌝ }
 {

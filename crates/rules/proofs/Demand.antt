@@ -2,30 +2,34 @@
 -- Assumes nothing.
 use Prim.Native.Nat.{ℕ, zero, suc, _+_, _<_, _≤_}
 use mathlib.Core.Path.{_≡_, refl, _∙_, sym, ap}
-use mathlib.Core.Logic.{inl, inr}
 use mathlib.Core.List.{List, [], _∷_, _++_}
 use native.Mathlib.Omega.{arith}
 use lib.Dec.{eqb, leb, not-T, nleb→lt}
 use lib.ListN.{length, replicate, length-replicate}
 use Rattle.laws.specs.Choice.{pick-yes, either}
-use Rattle.laws.specs.Test.{Below, Member, eq→eqb}
+use Rattle.laws.specs.Test.{Below, eq→eqb}
 use Rattle.laws.specs.First.{Every, first-failing, skip}
 use Rattle.words.specs.declared.Config.{Config}
 use Rattle.state.specs.State.{Env, State, env, top}
-use Rattle.state.specs.Ranges.{guards, budgetFits}
+use Rattle.state.specs.Ranges.{guards, budgetFits, runGuards}
 use Rattle.state.specs.Step.{refused, advanceOf, stepOf}
 use Rattle.state.specs.Run.{Run, ended, after, runOf, runCall}
-use Rattle.state.proofs.Ranges.{bounds, top-byte, Good, good, valid, passes}
+use Rattle.state.specs.Good.{Good}
+use Rattle.state.proofs.Ranges.{bounds, top-byte, good, valid, passes}
 use Rattle.rules.specs.Marks.{markAt, levelOf}
-use Rattle.rules.specs.Check.{Answer, checkOf, Passes}
+use Rattle.rules.specs.Check.{checkOf, passed, Passes}
 use Rattle.rules.specs.Calls.{Call, step, run, Done, callOf, trace}
-use Rattle.rules.specs.Demand.{May, no-data, no-input, no-room, too-long, Fine, atReset, Demand3, Answered, Demand3Answers}
+use Rattle.rules.specs.Demand.{May, no-data, no-input, no-room, too-long, Fine, atReset, Demand3}
 use Rattle.rules.specs.Demand as demand
-use Rattle.rules.specs.Claims.{Checks}
 use Rattle.rules.specs.Invariant.{Invariant}
 use Rattle.rules.proofs.Exact.{exact}
-use Rattle.rules.proofs.First.{names-first}
 use Rattle.rules.proofs.Stepping.{start, advanced-keeps, advanced-allowed, low}
+
+-- the level that a pass answers is the level at address 0
+pub passed-level : (c : Config) (image certificate : List ℕ) (l : ℕ) → checkOf c image certificate ≡ passed l → levelOf (markAt certificate 0) ≡ l
+passed-level c image certificate l pass =
+    let x = exact c image certificate in
+    ap (λ a. a .level) (sym (x .complete (x .sound (ap (λ a. a .number) pass))) ∙ pass)
 
 -- a fact of every state of a list, and of one more
 every-last : (P : State → Type 0) (ss : List State) (s : State) → Every P ss → P s → Every P (ss ++ (s ∷ []))
@@ -65,7 +69,7 @@ module _ (e : Env) (certificate : List ℕ) (ok : Passes (e .config) (e .image) 
   pub run-call-well : (budget : ℕ) (s : State) → Invariant e certificate s → Well (run budget) (runCall budget e s)
   unfolding runCall
   run-call-well budget s v =
-      let n = first-failing (guards e s ++ ((16, budgetFits budget) ∷ [])) in
+      let n = first-failing (runGuards budget e s) in
       let m : May (run budget) n = rw (skip (guards e s) ((16, budgetFits budget) ∷ []) (v .valid)) (budget-allowed budget) in
       either (Well (run budget)) (eqb n 0) (runOf budget e s) (ended n s) (λ t. run-well (run budget) budget s v)
       (λ f. record { number = m; seen = tt; last = v })
@@ -168,57 +172,9 @@ module _ (e : Env) (certificate : List ℕ) (ok : Passes (e .config) (e .image) 
 
 -- the user's demand 3
 pub demand-3 : Demand3
-demand-3 c image certificate l pass inputs registers memory addresses values calls rl rb ml mb ll =
+demand-3 c image certificate l pass inputs registers memory addresses values rl rb ml mb ll calls =
     let e = env c image inputs in
-    let x = exact c image certificate in
-    let ok = x .sound (ap (λ a. a .number) pass) in
-    let q : levelOf (markAt certificate 0) ≡ l = ap (λ a. a .level) (sym (x .complete ok) ∙ pass) in
-    rw (← q)
+    let ok = exact c image certificate .sound (ap (λ a. a .number) pass) in
+    rw (← passed-level c image certificate l pass)
     (trace-fine e certificate ok calls (atReset registers memory addresses values)
     (reset-holds e certificate ok registers memory addresses values rl rb ml mb ll))
-
--- in the calls' answers alone
-
-may-answer : (c : Call) (n : ℕ) → May c n → Member n (0 ∷ 13 ∷ 14 ∷ 15 ∷ 16 ∷ [])
-may-answer c n demand.passes = inl refl
-may-answer c n no-data = inr (inl refl)
-may-answer c n no-input = inr (inr (inl refl))
-may-answer c n no-room = inr (inr (inr (inl refl)))
-may-answer c n (too-long h) = inr (inr (inr (inr refl)))
-
--- the state that a call leaves is the last that it passes through
-last-low : (P : State → Type 0) (ss : List State) (s : State) → Every P (ss ++ (s ∷ [])) → P s
-last-low P [] s h = h .0
-last-low P (x ∷ ss) s h = last-low P ss s (h .1)
-
-call-answered : (l : ℕ) (e : Env) (c : Call) (s : State) → Fine l (c, callOf e c s) → Answered l (c, callOf e c s)
-unfolding callOf
-call-answered l e step s h = record { number = may-answer step (stepOf e s .number) (h .answer); stack = h .stack .1 .0 }
-call-answered l e (run budget) s h =
-    let r = runCall budget e s in
-    record {
-      number = may-answer (run budget) (r .number) (h .answer);
-      stack = last-low (λ (t : State). t .core .depth ≤ l) (r .seen) (r .last) (h .stack);
-    }
-
-trace-answered : (l : ℕ) (e : Env) (calls : List Call) (s : State) → Every (Fine l) (trace e calls s) → Every (Answered l) (trace e calls s)
-unfolding trace
-trace-answered l e [] s h = tt
-trace-answered l e (c ∷ calls) s h = (call-answered l e c s (h .0), trace-answered l e calls (callOf e c s .last) (h .1))
-
-pub demand-3-answers : Demand3Answers
-demand-3-answers c image certificate l pass inputs registers memory addresses values calls rl rb ml mb ll =
-    trace-answered l (env c image inputs) calls (atReset registers memory addresses values)
-    (demand-3 c image certificate l pass inputs registers memory addresses values calls rl rb ml mb ll)
-
--- what the check promises follows from its answer
-pub checks : (c : Config) (image certificate : List ℕ) (r : Answer) → r ≡ checkOf c image certificate → Checks c image certificate r
-checks c image certificate r e =
-    let x = exact c image certificate in
-    record {
-      answer = e;
-      sound = λ z. x .sound (rw e at z);
-      complete = λ p. e ∙ x .complete p;
-      first = rw e (names-first c image certificate);
-      demand3 = λ l p. demand-3 c image certificate l (sym e ∙ p);
-    }

@@ -15,7 +15,7 @@ use Rattle.words.specs.Configs.{lawful}
 use Rattle.rules.specs.Marks.{markAt, levelOf}
 use Rattle.rules.specs.Rules.{rulesAt}
 use Rattle.rules.specs.Check.{Answer, passed, refused, broken, sized, lowest, firstBroken, checkOf}
-use Rattle.rules.specs.Claims.{FirstBroken}
+use Rattle.rules.specs.Claims.{FirstBroken, NamesFirst}
 use Rattle.rules.proofs.Exact.{obeyed-at}
 
 -- of k addresses from a on, x names the first where f is not 0
@@ -59,9 +59,9 @@ module _ (c : Config) (image certificate : List ℕ) where
   abbrev Named : Answer → Type 0
   Named x = x .number ≡ 17 → FirstBroken c image certificate (x .address) (x .rule)
 
-  pub names-first : Named (checkOf c image certificate)
+  first-named : Named (checkOf c image certificate)
   unfolding checkOf
-  names-first =
+  first-named =
       let b = sized c (length image) (length certificate) in
       let p = passed (levelOf (markAt certificate 0)) in
       let f = lowest c image certificate in
@@ -83,3 +83,6 @@ module _ (c : Config) (image certificate : List ℕ) where
             breaks = λ o. h .breaks (none-fails (rulesAt c image certificate (x .address)) o);
             lowest = h .rule;
           }
+
+pub names-first : NamesFirst
+names-first = first-named

@@ -1,9 +1,9 @@
 -- Demand 3, whole: one claim about every list of calls.
 use Prim.Native.Nat.{ℕ, _<_, _≤_}
 use mathlib.Core.Path.{_≡_}
-use mathlib.Core.List.{List, [], _∷_}
+use mathlib.Core.List.{List}
 use lib.ListN.{length}
-use Rattle.laws.specs.Test.{Below, Member}
+use Rattle.laws.specs.Test.{Below}
 use Rattle.laws.specs.First.{Every}
 use Rattle.words.specs.declared.Config.{Config}
 use Rattle.state.specs.State.{State, env, state, top, resetMachine}
@@ -28,29 +28,21 @@ pub record Fine (l : ℕ) (d : Call × Done) : Type 0 where
 abbrev pub atReset : List ℕ → List ℕ → List ℕ → List ℕ → State
 atReset registers memory addresses values = state (resetMachine .core) (resetMachine .stack) registers memory addresses values
 
--- P of the trace of every list of calls "from a machine at reset", "Whatever the readings at the port", with "memories of the right length whose cells
--- fit the word width, and two log lists of equal length"
-abbrev pub Always : Config → List ℕ → (List (Call × Done) → Type 0) → Type 0
-Always c image P =
-    (inputs registers memory addresses values : List ℕ) (calls : List Call) →
+-- P of the inputs and the state of every "machine at reset", "Whatever the readings at the port", with "memories of the right length whose cells fit the
+-- word width, and two log lists of equal length"
+abbrev pub FromReset : Config → (List ℕ → State → Type 0) → Type 0
+FromReset c P =
+    (inputs registers memory addresses values : List ℕ) →
     length registers ≡ c .rmsize →
     Below (top c) registers →
     length memory ≡ c .dmsize →
     Below (top c) memory →
     length addresses ≡ length values →
-    P (trace (env c image inputs) calls (atReset registers memory addresses values))
+    P inputs (atReset registers memory addresses values)
 
+-- every call of every list of calls is fine
 abbrev pub Safe : Config → List ℕ → ℕ → Type 0
-Safe c image l = Always c image (Every (Fine l))
+Safe c image l = FromReset c (λ inputs s. (calls : List Call) → Every (Fine l) (trace (env c image inputs) calls s))
 
 abbrev pub Demand3 : Type 0
 Demand3 = (c : Config) (image certificate : List ℕ) (l : ℕ) → checkOf c image certificate ≡ passed l → Safe c image l
-
--- in the calls' answers alone: no other number, and no deeper stack in what they hand back
-pub record Answered (l : ℕ) (d : Call × Done) : Type 0 where
-  pub number : Member (d .1 .number) (0 ∷ 13 ∷ 14 ∷ 15 ∷ 16 ∷ [])
-  pub stack : d .1 .last .core .depth ≤ l
-
-abbrev pub Demand3Answers : Type 0
-Demand3Answers =
-    (c : Config) (image certificate : List ℕ) (l : ℕ) → checkOf c image certificate ≡ passed l → Always c image (Every (Answered l))

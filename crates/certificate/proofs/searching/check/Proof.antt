@@ -1,5 +1,5 @@
 -- `certificate::searching::check` meets its contract: the answer is the definition's, and rules proves the rest of it. Assumes nothing.
-use Rattle.rules.proofs.Demand.{checks}
+use Rattle.certificate.proofs.Demand.{checks}
 use Rattle.certificate.proofs.searching.check.Statement.{statement}
 use Rattle.certificate.proofs.searching.check.Tie as tie
 
