@@ -51,7 +51,8 @@ uint32_t yam_write(const uint32_t *config, size_t config_length, const uint32_t 
 uint32_t yam_reset(uint32_t *machine, size_t machine_length);
 
 /* One step: 1; 2 (lengths: image IM_SIZE, registers RM_SIZE, memory DM_SIZE, both lists of the log alike); 3; 4 to 15. inputs: what the ports give,
-   one word for each port read. answers: the step's cycles. On a refusal machine, registers, memory and log are left as they were. */
+   one word for each port read. answers: the step's cycles. On a refusal machine, registers, memory and log are left as they were. A call on the lists that a step or a run left
+   reads the state that it left: that is proved. */
 uint32_t yam_step(const uint32_t *config, size_t config_length, const uint32_t *image, size_t image_length, const uint32_t *inputs,
                   size_t inputs_length, uint32_t *machine, size_t machine_length, uint32_t *registers, size_t registers_length, uint32_t *memory,
                   size_t memory_length, uint32_t *log_addresses, size_t log_addresses_length, uint32_t *log_values, size_t log_values_length,
@@ -65,7 +66,10 @@ uint32_t yam_run(const uint32_t *config, size_t config_length, const uint32_t *i
                  uint64_t budget, uint64_t *answers, size_t answers_length);
 
 /* Checks an image against its certificate (document 01's sheet), a byte an address: 1; 2 (image or certificate not IM_SIZE long); 17.
-   answers: on a pass the level at address 0, and 0; beside 17 the first address that breaks a rule, and its lowest rule. */
+   answers: on a pass the level at address 0, and 0; beside 17 the first address that breaks a rule, and its lowest rule. After a pass every list of
+   yam_step and yam_run calls from a machine of yam_reset, with memories of the right lengths whose cells fit the word width and two log lists of equal
+   length, each call on the lists that the last one left, answers 0, 13, 14 and 15 alone (a run also 16), and word 7 of the machine stays at most that
+   level: that is proved. */
 uint32_t yam_check(const uint32_t *config, size_t config_length, const uint32_t *image, size_t image_length, const uint8_t *certificate,
                    size_t certificate_length, uint64_t *answers, size_t answers_length);
 

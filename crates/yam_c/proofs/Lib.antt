@@ -2,3 +2,6 @@ pub mod Storing
 pub mod Words
 pub mod Machines
 pub mod Calls
+pub mod Back
+pub mod HandsOn
+pub mod Demand

@@ -15,8 +15,22 @@ use state::Machine;
 use words::Config;
 use words::Instruction;
 
-// How many words a machine has.
-const MACHINE_WORDS: usize = 100;
+// How many words a configuration, an instruction and a machine have.
+pub const CONFIG_WORDS: usize = 19;
+
+pub const INSTRUCTION_WORDS: usize = 6;
+
+pub const MACHINE_WORDS: usize = 100;
+
+// Where in a machine's words the return stack starts, behind the core, and where it ends; zeros follow.
+pub const STACK_FROM: usize = 17;
+
+pub const STACK_TO: usize = 80;
+
+const ZEROS: usize = 20;
+
+// How many values a word has.
+const WORD_VALUES: u64 = 4294967296;
 
 // Word i, or 0 past the end.
 fn cell(flat: &[u32], i: usize) -> u32
@@ -65,13 +79,13 @@ fn wide(low: u32, high: u32) -> usize
 fn low(n: u64) -> u32
     ensures { λ r. ⌜ r ≡ low n ⌝ }
 {
-    (n % 4294967296) as u32
+    (n % WORD_VALUES) as u32
 }
 
 fn high(n: u64) -> u32
     ensures { λ r. ⌜ r ≡ high n ⌝ }
 {
-    (n / 4294967296) as u32
+    (n / WORD_VALUES) as u32
 }
 
 // What a call answers beside its number, one value or two.
@@ -118,7 +132,7 @@ fn config_in(flat: &[u32]) -> Config
 pub fn config_from(flat: &[u32]) -> Config
     ensures { λ r. ⌜ r ≡ configOf (now (flat .entry)) ⌝ }
 {
-    if flat.len() == 19 {
+    if flat.len() == CONFIG_WORDS {
         config_in(flat)
     } else {
         config_in(&flat[0..0])
@@ -169,7 +183,7 @@ fn instruction_in(flat: &[u32]) -> Instruction
 pub fn instruction_from(flat: &[u32]) -> Instruction
     ensures { λ r. ⌜ r ≡ instructionOf (now (flat .entry)) ⌝ }
 {
-    if flat.len() == 6 {
+    if flat.len() == INSTRUCTION_WORDS {
         instruction_in(flat)
     } else {
         Instruction {
@@ -197,7 +211,7 @@ pub fn machine_shaped(flat: &[u32]) -> bool
     if flat.len() != MACHINE_WORDS {
         return false;
     }
-    let above = guards::joined(&flat[80..100]);
+    let above = guards::joined(&flat[STACK_TO..MACHINE_WORDS]);
     above == 0
 }
 
@@ -253,7 +267,7 @@ pub fn misshapen(
     )
 }
 
-fn core_words(m: Core) -> [u32; 17]
+fn core_words(m: Core) -> [u32; STACK_FROM]
     ensures { λ r. ⌜ r ≡ coreWords m ⌝ }
 {
     [
@@ -283,9 +297,9 @@ pub fn machine_into(m: Machine, flat: &mut [u32])
     let core = core_words(m.core);
     store(flat, 0, &core);
     let stack = m.stack;
-    store(flat, 17, &stack);
-    let zeros = [0u32; 20];
-    store(flat, 80, &zeros);
+    store(flat, STACK_FROM, &stack);
+    let zeros = [0u32; ZEROS];
+    store(flat, STACK_TO, &zeros);
 }
 
 // Writes the core where it changed: the return stack was changed in place.

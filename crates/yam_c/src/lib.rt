@@ -9,6 +9,7 @@ ghost use Rattle.state.specs.Run as Run;
 ghost use Rattle.machine.specs.Stepping.{machineState, endOf};
 ghost use Rattle.yam_c.specs.Flat.{shaped, machineOf};
 ghost use Rattle.yam_c.specs.Calls.{left, readLeft, readCall, writeLeft, writeCall, resetCall, moved, stepLeft, stepCall, runLeft, runCall, checkLeft, checkCall, printed, textPrinted, listCall, assembled, assembleCall, filled, loadCall, storeCall};
+ghost use Rattle.yam_c.specs.Claims.{ConfigBack, InstructionBack, MachineBack, StepHandsOn, RunHandsOn, Demand3Lists};
 
 mod flat;
 
@@ -36,7 +37,7 @@ fn read_into(r: Reading, instruction: &mut [u32]) -> u32
     match r {
         Reading::Refused(x) => x.number(),
         Reading::Decoded(i) => {
-            if instruction.len() != 6 {
+            if instruction.len() != flat::INSTRUCTION_WORDS {
                 return 7;
             }
             instruction_into(i, instruction);
@@ -85,10 +86,10 @@ fn check_into(r: Checked, answers: &mut [u64]) -> u32
     }
 }
 
-// Reads a word: 1, 5, 6, 7.
+// Reads a word: 1, 5, 6, 7. The instruction that it leaves is the one that yam_write reads there.
 #[no_mangle]
 pub extern "C" fn yam_read(config: &[u32], word: u32, instruction: &mut [u32]) -> u32
-    ensures { λ n. ⌜ left n (now (instruction .exit)) ≡ readCall (now (config .entry)) word (now (instruction .entry)) ⌝ }
+    ensures { λ n. ⌜ (left n (now (instruction .exit)) ≡ readCall (now (config .entry)) word (now (instruction .entry))) × InstructionBack ⌝ }
 {
     let r = words::read_word(config_from(config), word);
     read_into(r, instruction)
@@ -103,12 +104,12 @@ pub extern "C" fn yam_write(config: &[u32], instruction: &[u32], answers: &mut [
     write_into(w, answers)
 }
 
-// The machine at reset; 3 where the list is not a hundred words long.
+// The machine at reset; 3 where the list is not a hundred words long. A machine in its ranges, written so, reads back as itself.
 #[no_mangle]
 pub extern "C" fn yam_reset(machine: &mut [u32]) -> u32
-    ensures { λ n. ⌜ left n (now (machine .exit)) ≡ resetCall (now (machine .entry)) ⌝ }
+    ensures { λ n. ⌜ (left n (now (machine .exit)) ≡ resetCall (now (machine .entry))) × MachineBack ⌝ }
 {
-    if machine.len() != 100 {
+    if machine.len() != flat::MACHINE_WORDS {
         return 3;
     }
     machine_into(Machine::reset(), machine);
@@ -136,7 +137,7 @@ fn step_in_place(
         image,
         inputs,
         m,
-        &mut machine[17..80],
+        &mut machine[flat::STACK_FROM..flat::STACK_TO],
         registers,
         memory,
         addresses,
@@ -148,7 +149,7 @@ fn step_in_place(
     r.number
 }
 
-// One step: 1, 2, 3, 4 to 15.
+// One step: 1, 2, 3, 4 to 15. The next call reads the state that it left.
 #[no_mangle]
 pub extern "C" fn yam_step(
     config: &[u32],
@@ -161,7 +162,7 @@ pub extern "C" fn yam_step(
     values: &mut [u32],
     answers: &mut [u64],
 ) -> u32
-    ensures { λ n. ⌜ moved n (now (machine .exit)) (now (registers .exit)) (now (memory .exit)) (now (addresses .exit)) (now (values .exit)) (now (answers .exit)) ≡ stepCall (now (config .entry)) (now (image .entry)) (now (inputs .entry)) (now (machine .entry)) (now (registers .entry)) (now (memory .entry)) (now (addresses .entry)) (now (values .entry)) (now (answers .entry)) ⌝ }
+    ensures { λ n. ⌜ (moved n (now (machine .exit)) (now (registers .exit)) (now (memory .exit)) (now (addresses .exit)) (now (values .exit)) (now (answers .exit)) ≡ stepCall (now (config .entry)) (now (image .entry)) (now (inputs .entry)) (now (machine .entry)) (now (registers .entry)) (now (memory .entry)) (now (addresses .entry)) (now (values .entry)) (now (answers .entry))) × StepHandsOn ⌝ }
 {
     let c = config_from(config);
     if machine_shaped(machine) {
@@ -203,7 +204,7 @@ fn run_in_place(
         image,
         inputs,
         m,
-        &mut machine[17..80],
+        &mut machine[flat::STACK_FROM..flat::STACK_TO],
         registers,
         memory,
         addresses,
@@ -216,7 +217,7 @@ fn run_in_place(
     r.number
 }
 
-// A run: 1, 2, 3, 16, then the number of the step that ended it.
+// A run: 1, 2, 3, 16, then the number of the step that ended it. The next call reads the state that it left.
 #[no_mangle]
 pub extern "C" fn yam_run(
     config: &[u32],
@@ -230,7 +231,7 @@ pub extern "C" fn yam_run(
     budget: u64,
     answers: &mut [u64],
 ) -> u32
-    ensures { λ n. ⌜ moved n (now (machine .exit)) (now (registers .exit)) (now (memory .exit)) (now (addresses .exit)) (now (values .exit)) (now (answers .exit)) ≡ runCall (now (config .entry)) (now (image .entry)) (now (inputs .entry)) (now (machine .entry)) (now (registers .entry)) (now (memory .entry)) (now (addresses .entry)) (now (values .entry)) budget (now (answers .entry)) ⌝ }
+    ensures { λ n. ⌜ (moved n (now (machine .exit)) (now (registers .exit)) (now (memory .exit)) (now (addresses .exit)) (now (values .exit)) (now (answers .exit)) ≡ runCall (now (config .entry)) (now (image .entry)) (now (inputs .entry)) (now (machine .entry)) (now (registers .entry)) (now (memory .entry)) (now (addresses .entry)) (now (values .entry)) budget (now (answers .entry))) × RunHandsOn ⌝ }
 {
     let c = config_from(config);
     if machine_shaped(machine) {
@@ -251,7 +252,7 @@ pub extern "C" fn yam_run(
     misshapen(c, image, inputs, registers, memory, addresses, values)
 }
 
-// The check of a certificate: 1, 2, 17.
+// The check of a certificate: 1, 2, 17. Where it passes, demand 3 holds of every list of calls of yam_step and yam_run after yam_reset.
 #[no_mangle]
 pub extern "C" fn yam_check(
     config: &[u32],
@@ -259,7 +260,7 @@ pub extern "C" fn yam_check(
     certificate: &[u8],
     answers: &mut [u64],
 ) -> u32
-    ensures { λ n. ⌜ left n (now (answers .exit)) ≡ checkCall (now (config .entry)) (now (image .entry)) (now (certificate .entry)) (now (answers .entry)) ⌝ }
+    ensures { λ n. ⌜ (left n (now (answers .exit)) ≡ checkCall (now (config .entry)) (now (image .entry)) (now (certificate .entry)) (now (answers .entry))) × Demand3Lists ⌝ }
 {
     let r = certificate::check(config_from(config), image, certificate);
     check_into(r, answers)
@@ -322,9 +323,9 @@ pub extern "C" fn yam_assemble(
 // Loads an image file: 1 where the list for the configuration is not nineteen words long; then 19 to 22, 1 and 2 in document 01's order.
 #[no_mangle]
 pub extern "C" fn yam_load(file: &[u8], config: &mut [u32], image: &mut [u32]) -> u32
-    ensures { λ n. ⌜ filled n (now (config .exit)) (now (image .exit)) ≡ loadCall (now (file .entry)) (now (config .entry)) (now (image .entry)) ⌝ }
+    ensures { λ n. ⌜ (filled n (now (config .exit)) (now (image .exit)) ≡ loadCall (now (file .entry)) (now (config .entry)) (now (image .entry))) × ConfigBack ⌝ }
 {
-    if config.len() != 19 {
+    if config.len() != flat::CONFIG_WORDS {
         return 1;
     }
     let r = image::load(file, image);
