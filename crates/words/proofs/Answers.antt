@@ -48,7 +48,7 @@ pub unlawful-read : (c : Config) (w : ℕ) → test (lawful c) ≡ false → rea
 unfolding readOf refusals answered pick
 unlawful-read c w h = rw h
 
-pub lawful-write : (c : Config) (i : Instruction) → test (lawful c) ≡ true → writeLawful c i ≡ writeOf c i
+lawful-write : (c : Config) (i : Instruction) → test (lawful c) ≡ true → writeLawful c i ≡ writeOf c i
 unfolding writeLawful writeOf refusals pick
 lawful-write c i h = rw h
 
@@ -56,15 +56,13 @@ pub unlawful-write : (c : Config) (i : Instruction) → test (lawful c) ≡ fals
 unfolding writeOf refusals written pick
 unlawful-write c i h = rw h
 
--- an answer that is right is the other way's too
+-- what the two calls promise of a right answer
 
-pub reads : (c : Config) (w : ℕ) (r : Reading) → w < 0x100000000 → readingOf r ≡ readOf c w → Reads c w r
-unfolding readingOf
-reads c w r h e = record { answer = e; back = λ i q. read-then-write c w i h (sym e ∙ ap readingOf q) }
+pub reads : (c : Config) (w : ℕ) (r : Reading) → readingOf r ≡ readOf c w → Reads c w r
+reads c w r e = record { answer = e; back = read-then-write }
 
 pub writes : (c : Config) (i : Instruction) (r : Writing) → writingOf r ≡ writeOf c i → Writes c i r
-unfolding writingOf
-writes c i r e = record { answer = e; back = λ w q. write-then-read c i w (sym e ∙ ap writingOf q) }
+writes c i r e = record { answer = e; back = write-then-read }
 
 -- writing by lent tables, step by step: an unknown row, and a known one
 

@@ -10,9 +10,7 @@ use Rattle.laws.specs.Table.{values}
 use Rattle.words.specs.declared.Config.{Config}
 use Rattle.words.specs.declared.Instruction.{Instruction}
 use Rattle.words.specs.declared.Reading.{Reading}
-use Rattle.words.specs.declared.Reading.the-variants.{Decoded}
 use Rattle.words.specs.declared.Writing.{Writing}
-use Rattle.words.specs.declared.Writing.the-variants.{Encoded}
 use Rattle.words.specs.Parts.{Part, flag, byte, coprocessor, is}
 use Rattle.words.specs.Rows.{Row, rowCount, rowAt}
 use Rattle.words.specs.Classes.{classOf, named}
@@ -36,12 +34,12 @@ WriteThenRead = (c : Config) (i : Instruction) (w : ℕ) → writeOf c i ≡ wro
 -- what `read_word` promises of its answer r
 pub record Reads (c : Config) (w : ℕ) (r : Reading) : Type 0 where
   pub answer : readingOf r ≡ readOf c w
-  pub back : (i : Instruction) → r ≡ Decoded i → writeOf c i ≡ wrote w
+  pub back : ReadThenWrite
 
 -- what `write_word` promises of its answer r
 pub record Writes (c : Config) (i : Instruction) (r : Writing) : Type 0 where
   pub answer : writingOf r ≡ writeOf c i
-  pub back : (w : ℕ) → r ≡ Encoded w → readOf c w ≡ understood i
+  pub back : WriteThenRead
 
 -- how many numbers stand in bits 31-23 beside a row's base, by what its number part holds
 abbrev pub numbers : Part → ℕ
