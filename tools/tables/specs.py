@@ -112,9 +112,9 @@ def frame_base(arguments):
 
 
 def named_alone(r):
-    """Whether a row's number has a name: the rows of TST to MUL and of the conditions are counted from the first."""
+    """Whether a row's number has a name: the rows of TST to MUL are counted from 0, those of the conditions from the first."""
     counted = any(r['name'].startswith(op + '-') for op in BASE) or r['name'].startswith('JMP')
-    return not counted or r['name'] == 'TST-register' or r['name'].endswith('ALWAYS')
+    return not counted or r['name'].endswith('ALWAYS')
 
 
 def numbers(): return f'''-- The numbers of the rows, in the order of Rows. {WRITTEN}

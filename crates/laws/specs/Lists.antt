@@ -4,9 +4,8 @@ use mathlib.Core.Path.{_≡_, refl}
 use mathlib.Core.Logic.{inl, inr}
 use mathlib.Core.Bool.{Bool, true, _&&_}
 use mathlib.Core.List.{List, [], _∷_}
-use Prim.Native.Nat.{ℕ, zero, suc, _<_, _≤_}
+use Prim.Native.Nat.{ℕ, zero, suc, _<_}
 use native.Mathlib.Nat.{le-of-suc-le-suc, not-suc-le-zero}
-use native.Mathlib.Omega.{arith}
 use lib.Dec.{T}
 use lib.ListN.{length, getD}
 use Rattle.laws.specs.Test.{Member, and-left, and-right}
@@ -27,18 +26,6 @@ module _ {A B : Type 0} where
   column-at f [] n d = refl
   column-at f (x ∷ xs) zero d = refl
   column-at f (x ∷ xs) (suc n) d = column-at f xs n d
-
--- two lists, the one nowhere above the other
-abbrev pub Under : List ℕ → List ℕ → Type 0
-Under [] m = Unit {0}
-Under (x ∷ l) [] = ⊥
-Under (x ∷ l) (y ∷ m) = (x ≤ y) × Under l m
-
-pub under-at : (l m : List ℕ) (p : ℕ) → Under l m → getD l p 0 ≤ getD m p 0
-under-at [] m p b = omega arith
-under-at (x ∷ l) [] p b = absurd b
-under-at (x ∷ l) (y ∷ m) zero b = b .0
-under-at (x ∷ l) (y ∷ m) (suc p) b = under-at l m p (b .1)
 
 -- f holds of each number of the list
 abbrev pub all : (ℕ → Bool) → List ℕ → Bool

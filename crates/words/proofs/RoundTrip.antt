@@ -28,7 +28,7 @@ word-back c w hw hr =
     let f = w % 0x800000 in
     let r = rowAt (rowOf (classOf k) f) in
     let p = row-facts k f (omega arith) (omega arith) hr in
-    omega (arith, layout-sum (layoutOf c (r .value)) (f - code r))
+    omega (arith, p .key-most, p .code-most, layout-sum (layoutOf c (r .value)) (f - code r))
 
 -- instructions with the same parts are one
 
@@ -153,7 +153,7 @@ decoded n i j e =
     given : (m : ℕ) → m ≡ 0 → pick (eqb m 0) i zeros ≡ j → i ≡ j
     given m z v = rw z at v
 
-pub encoded : (n w v : ℕ) → written n w ≡ wrote v → (n ≡ 0) × (w ≡ v)
+encoded : (n w v : ℕ) → written n w ≡ wrote v → (n ≡ 0) × (w ≡ v)
 unfolding written pick
 encoded n w v e =
     let z : n ≡ 0 = ap (λ r. r .number) e in

@@ -1,9 +1,6 @@
 -- The numbers of the rows, in the order of Rows. Written by tools/rows.
 use Prim.Native.Nat.{ℕ}
 
-abbrev pub TST-register : ℕ
-TST-register = 0
-
 abbrev pub SHR-register : ℕ
 SHR-register = 60
 
