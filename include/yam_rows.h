@@ -1,4 +1,4 @@
-/* The numbers of the rows, as in crates/words/src/numbers.rt. Written by tools/rows. */
+/* The numbers of the rows, in the order of crates/words/specs/Rows.antt. Written by tools/rows. */
 #ifndef YAM_ROWS_H
 #define YAM_ROWS_H
 #define YAM_ROW_TST_REGISTER 0

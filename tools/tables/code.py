@@ -10,6 +10,11 @@ def name(text): return text.upper().replace('-', '_')
 def constants(ty, pairs): return '\n'.join(f'pub const {name(n)}: {ty} = {v};\n' for n, v in pairs)
 
 
+# what the code names: of the others no line of code speaks
+NAMED_ROWS = ['CLZ', 'MOVIO-read', 'IRQ-ON', 'IRQ-OFF']
+NAMED_PARTS = ['unused', 'flag', 'target', 'count']
+
+
 def entries(xs, form): return lines(f'    {form % x},' for x in xs)
 
 
@@ -21,9 +26,9 @@ def numbers():
     first = NUMBER['CLZ']
     level2 = [(r['base'] >> 8 & 0xff, NUMBER[r['name']] - first) for r in ROWS if r['base'] >> 27 == 0b10011]
     misc = {r['base'] >> 16 & 0x7f: NUMBER[r['name']] for r in ROWS if r['base'] >> 23 == 0b111100000}
-    return f'''// The numbers of the rows, in the order of specs/Rows.antt. {WRITTEN}
+    return f'''// The numbers of the rows that code names, in the order of specs/Rows.antt. {WRITTEN}
 
-{constants('u32', NUMBER.items())}
+{constants('u32', [(n, NUMBER[n]) for n in NAMED_ROWS])}
 // How many rows there are: a number from here on names none.
 pub const ROW_COUNT: u32 = {len(ROWS)};
 
@@ -37,11 +42,11 @@ pub const MISC_ROWS: u64 = {digits(8, [(code, misc.get(code, NO_ROW)) for code i
 '''
 
 
-def codes(): return f'''// The numbers of parts, options and marks in a row's packed columns (specs/Codes.antt). {WRITTEN}
+def codes(): return f'''// The numbers of parts and marks in a row's packed columns (specs/Codes.antt). {WRITTEN}
 
 // what a part holds
 
-{constants('u32', [(p, n) for n, p in enumerate(PARTS)])}
+{constants('u32', [(p, PARTS.index(p)) for p in NAMED_PARTS])}
 // the weights of the digits, the flag's being the lowest, and of the marks
 
 {constants('u64', [(c + '-digit', f'0x{16 ** n:x}') for n, c in enumerate(COLUMNS + ['option']) if n] + [('marks', '0x1000000')])}
@@ -54,9 +59,10 @@ pub const NO_ROW: u64 = 0x{OPTIONS.index('never') << 20:x};
 {constants('u64', [(m[0], 1 << n) for n, m in enumerate(MARKS)])}'''
 
 
-def actions(): return f'''// The numbers of the actions: kind, operation and operand of a row in one (specs/Actions.antt). {WRITTEN}
+def actions(): return f'''// The numbers of the actions: kind, operation and operand of a row in one (specs/Actions.antt). The last,
+// {name(lookup.action_name(lookup.ACTIONS[-1]))}, is what is left of a match. {WRITTEN}
 
-{constants('u32', [(lookup.action_name(a), n) for n, a in enumerate(lookup.ACTIONS)])}'''
+{constants('u32', [(lookup.action_name(a), n) for n, a in enumerate(lookup.ACTIONS[:-1])])}'''
 
 
 def classes(): return f'''// The class of a word by its bits 31 to 23 (specs/Classes.antt): a row, or one of these. {WRITTEN}
@@ -205,7 +211,7 @@ def proof_of_templates():
         f'template-past _ (excluded _ {len(ROWS)} (c .match .rest))', 'cells', 'templates')
 
 
-def header(): return f'''/* The numbers of the rows, as in crates/words/src/numbers.rt. {WRITTEN} */
+def header(): return f'''/* The numbers of the rows, in the order of crates/words/specs/Rows.antt. {WRITTEN} */
 #ifndef YAM_ROWS_H
 #define YAM_ROWS_H
 {lines(f'#define YAM_ROW_{name(n)} {i}' for n, i in NUMBER.items())}

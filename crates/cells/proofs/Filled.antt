@@ -9,8 +9,8 @@ use borrow.Author.Tests.{ltb-true, ltb-false, eqb-false}
 use lib.Dec.{T, ltb, lt→ltb, eqb, eqb→eq, not-T}
 use lib.Bits.{bitAnd}
 use lib.Pow.{pow-mono}
-use Rattle.laws.specs.Choice.{pick, either, true-is}
-use Rattle.laws.specs.Test.{Test, most, same, isnt, yes?, no?, if?, _and_, test, Holds, holds, and-both}
+use Rattle.laws.specs.Choice.{pick, either, is-true, true-is}
+use Rattle.laws.specs.Test.{Test, most, same, isnt, yes?, no?, if?, _and_, test, Holds, holds, tests, and-both}
 use Rattle.laws.specs.Table.{every, at-every}
 use Rattle.words.specs.declared.Config.{Config}
 use Rattle.words.specs.declared.Instruction.{Instruction}
@@ -27,7 +27,7 @@ use Rattle.words.specs.Rows.{rows, rowCount, rowAt}
 use Rattle.words.specs.Codes.{formAt, conditionAt}
 use Rattle.words.specs.Configs.{lawful}
 use Rattle.words.specs.Classes.{classOf, rowOf}
-use Rattle.words.specs.Words.{zeros, spread, fieldsIn, partsBy, partsOf, readLawful}
+use Rattle.words.specs.Words.{Read, zeros, spread, fieldsIn, partsBy, partsOf, readLawful, readOf}
 use Rattle.words.specs.Answers.{refusalNumber, readingOf}
 use Rattle.words.specs.Claims.{understood}
 use Rattle.words.specs.Facts.{factsFor}
@@ -36,6 +36,7 @@ use Rattle.words.specs.Lookup.{entryAt, entryOf, actionAt, entryKind, checkAt, 
 use Rattle.words.proofs.Checks.{alike, alike-is, isnt-it}
 use Rattle.words.proofs.Lookup.{read-row, quick, agrees}
 use Rattle.words.proofs.Clear.{mask-quick}
+use Rattle.words.proofs.Answers.{lawful-read}
 use Rattle.arith.specs.Width.{bits, one}
 use Rattle.arith.specs.Fits.{bits-width, immediate-answer-fits}
 use Rattle.state.specs.Operands.{constant, conditionMet}
@@ -336,6 +337,10 @@ quick-cell c w n t m r hw p q e z f hc =
     let check : t / 0x400 % 64 ≡ entryOf w % 64 = rw q (template-check n ∙ rw p) in
     let clear = rw (e, check) at z in
     read-cell c w n t r (partsOf c w) hw p q f hc (quick c w hc hw (mask-quick c w hc hw clear))
+
+-- one that is read before it is decoded: under a lawful configuration 1 is passed over
+pub answered : (c : Config) (w : ℕ) (r : Read) → Holds (lawful c) → r ≡ readOf c w → r ≡ readLawful c w
+answered c w r hc e = e ∙ sym (lawful-read c w (is-true (test (lawful c)) (tests (lawful c) hc)))
 
 -- one that is refused
 pub refused-cell : (c : Config) (w v r : ℕ) (x : Refusal) → readingOf (Refused x) ≡ readLawful c w → v ≡ refusalNumber x → r ≡ leaving v → r ≡ cellOf c w

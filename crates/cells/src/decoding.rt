@@ -89,7 +89,7 @@ pub fn decode(c: Config, w: u32) -> u64
     if w & words::mask_for(c, t / own::CHECK % own::CHECKS) == 0 {
         return filled(c, t, w);
     }
-    let r = words::read_word_lawful(c, w);
+    let r = words::read_word(c, w);
     match r {
         Reading::Refused(x) => leaving(x.number()),
         Reading::Decoded(_) => filled(c, t, w),

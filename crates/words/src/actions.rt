@@ -1,4 +1,5 @@
-// The numbers of the actions: kind, operation and operand of a row in one (specs/Actions.antt). Written by tools/rows.
+// The numbers of the actions: kind, operation and operand of a row in one (specs/Actions.antt). The last,
+// SPR_ON, is what is left of a match. Written by tools/rows.
 
 pub const UNSUPPORTED: u32 = 0;
 
@@ -125,5 +126,3 @@ pub const RET: u32 = 60;
 pub const RETWP: u32 = 61;
 
 pub const SPR_OFF: u32 = 62;
-
-pub const SPR_ON: u32 = 63;

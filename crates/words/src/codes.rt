@@ -1,4 +1,4 @@
-// The numbers of parts, options and marks in a row's packed columns (specs/Codes.antt). Written by tools/rows.
+// The numbers of parts and marks in a row's packed columns (specs/Codes.antt). Written by tools/rows.
 
 // what a part holds
 
@@ -6,29 +6,9 @@ pub const UNUSED: u32 = 0;
 
 pub const FLAG: u32 = 1;
 
-pub const BYTE: u32 = 2;
-
-pub const COPROCESSOR: u32 = 3;
-
-pub const REGISTER: u32 = 4;
-
-pub const UNIT: u32 = 5;
-
-pub const MASK: u32 = 6;
-
-pub const IMMEDIATE: u32 = 7;
-
-pub const READ_ADDRESS: u32 = 8;
-
-pub const WRITE_ADDRESS: u32 = 9;
-
 pub const TARGET: u32 = 10;
 
 pub const COUNT: u32 = 11;
-
-pub const BANK_ADDRESS: u32 = 12;
-
-pub const SHORT: u32 = 13;
 
 // the weights of the digits, the flag's being the lowest, and of the marks
 

@@ -31,6 +31,9 @@ use crate::single::packed_of;
 use crate::verdict::available_in;
 use crate::verdict::parts_fit;
 
+// Bits 31-23, which choose the row; what lies below are bits 22-0.
+const KEY: u32 = 0x800000;
+
 // a less b, or 0 where b is the larger.
 fn less(a: u32, b: u32) -> u32
     ensures { λ r. ⌜ r ≡ a - b ⌝ }
@@ -50,9 +53,9 @@ fn flag_in(p: u64, k: u32) -> u32
 fn fields_in(c: Config, n: u32, base: u32, p: u64, k: u32, f: u32) -> Fields
     ensures { λ r. ⌜ r ≡ fieldsIn c n (unpack base p unsupported) k f ⌝ }
 {
-    let rest = less(f, base % layout::KEY);
+    let rest = less(f, base % KEY);
     let flag = flag_in(p, k);
-    let number = less(k, base / layout::KEY + 8 * flag);
+    let number = less(k, base / KEY + 8 * flag);
     let holds = digit(p, codes::VALUE_DIGIT);
     let high = rest / layout::UPPER;
     let low = rest % layout::UPPER;
@@ -105,8 +108,8 @@ fn judge(known: bool, there: bool, fit: bool, i: Instruction) -> Reading
 pub fn read_word_lent(classes: &[u8], bases: &[u32], packs: &[u64], c: Config, w: u32) -> Reading
     ensures { λ r. ⌜ readingOf r ≡ readLent (now (classes .entry)) (now (bases .entry)) (now (packs .entry)) c w ⌝ }
 {
-    let k = w / layout::KEY;
-    let f = w % layout::KEY;
+    let k = w / KEY;
+    let f = w % KEY;
     let n = row_of(class_at(classes, k), f);
     let base = base_at(bases, n);
     let p = packed_at(packs, n);
@@ -124,7 +127,7 @@ pub fn read_word_lent(classes: &[u8], bases: &[u32], packs: &[u64], c: Config, w
 pub fn row_lent(classes: &[u8], w: u32) -> u32
     ensures { λ r. ⌜ r ≡ numberLent (now (classes .entry)) w ⌝ }
 {
-    row_of(class_at(classes, w / layout::KEY), w % layout::KEY)
+    row_of(class_at(classes, w / KEY), w % KEY)
 }
 
 // Whether word w, of row n, is below the two limits of its check.
@@ -143,26 +146,23 @@ pub fn parts_lent(bases: &[u32], packs: &[u64], c: Config, n: u32, w: u32) -> In
 {
     let base = base_at(bases, n);
     let p = packed_at(packs, n);
-    spread_fields(
-        c,
-        fields_in(c, n, base, p, w / layout::KEY, w % layout::KEY),
-    )
+    spread_fields(c, fields_in(c, n, base, p, w / KEY, w % KEY))
 }
 
 // The row of a single word.
 pub fn row_of_word(w: u32) -> u32
     ensures { λ r. ⌜ r ≡ rowOf (classOf (w / 0x800000)) (w % 0x800000) ⌝ }
 {
-    row_of(class_of(w / layout::KEY), w % layout::KEY)
+    row_of(class_of(w / KEY), w % KEY)
 }
 
-// Reading without a look at refusal 1, for callers that have validated the configuration.
+// Reading without a look at refusal 1.
 // A word of no row is refused first: after that `base_of` and `packed_of` compile to plain tables.
-pub fn read_word_lawful(c: Config, w: u32) -> Reading
+fn read_word_lawful(c: Config, w: u32) -> Reading
     ensures { λ r. ⌜ readingOf r ≡ readLawful c w ⌝ }
 {
-    let k = w / layout::KEY;
-    let f = w % layout::KEY;
+    let k = w / KEY;
+    let f = w % KEY;
     let n = row_of(class_of(k), f);
     if n < numbers::ROW_COUNT {
         let base = base_of(n);

@@ -24,6 +24,9 @@ use crate::tables::row_table;
 use crate::verdict::fits_lent;
 use crate::verdict::option_lent;
 
+// How many words there are, of 32 bits.
+const WORDS: u64 = 0x100000000;
+
 // The word's fields, from the instruction's parts.
 fn gather_parts(c: Config, i: Instruction) -> Fields
     ensures { λ r. ⌜ r ≡ gather c i ⌝ }
@@ -49,7 +52,7 @@ fn word_from(base: u32, s: Fields) -> u32
         + layout::UPPER as u64 * s.upper as u64
         + s.lower as u64
         + s.value as u64;
-    (sum % layout::WORDS) as u32
+    (sum % WORDS) as u32
 }
 
 // The answer of a known row, by whether its option is there and the parts are in range.

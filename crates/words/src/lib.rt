@@ -5,25 +5,24 @@ ghost use Rattle.words.specs.Answers.{refusalNumber};
 
 pub mod actions;
 mod classes;
-pub mod codes;
+mod codes;
 mod columns;
-pub mod configuration;
-pub mod decode;
-pub mod encode;
+mod configuration;
+mod decode;
+mod encode;
 mod entries;
 pub mod layout;
 mod masks;
-pub mod meaning;
-pub mod numbers;
+mod meaning;
+mod numbers;
 mod rows;
 mod single;
-pub mod tables;
+mod tables;
 mod verdict;
 
 pub use decode::below_limits;
 pub use decode::parts_lent;
 pub use decode::read_word;
-pub use decode::read_word_lawful;
 pub use decode::read_word_lent;
 pub use decode::row_lent;
 pub use decode::row_of_word;
@@ -107,7 +106,7 @@ pub enum Operation {
 }
 
 // The fields of a word by place: bit 26, the number in the low bits of 31-23, bits 22-16, the bits below them, and the value.
-pub struct Fields {
+struct Fields {
     pub row: u32,
     pub flag: u32,
     pub number: u32,

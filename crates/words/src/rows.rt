@@ -15,6 +15,17 @@ use crate::codes;
 use crate::layout;
 use crate::numbers;
 
+// Bits 15-8, which choose the row at level 2.
+const LEVEL2: u32 = 0x100;
+
+const LEVEL2_CODES: u32 = 256;
+
+// Bit 15, which makes a port read IORMW.
+const MODIFY: u32 = 0x8000;
+
+// Bit 22, which makes IRQ_ON IRQ_OFF.
+const SWITCH_OFF: u32 = 0x400000;
+
 pub fn pick(b: bool, x: u32, y: u32) -> u32
     ensures { λ r. ⌜ r ≡ choice b x y ⌝ }
 {
@@ -56,7 +67,7 @@ fn index_row(n: u32) -> u32
 fn port_row(f: u32) -> u32
     ensures { λ r. ⌜ r ≡ lookup portRows (f / 32768 % 2) ⌝ }
 {
-    numbers::MOVIO_READ + f / layout::MODIFY % 2
+    numbers::MOVIO_READ + f / MODIFY % 2
 }
 
 fn mask_row(n: u32) -> u32
@@ -87,7 +98,7 @@ pub fn row_of(c: u32, f: u32) -> u32
         return c;
     }
     if c == INDEX {
-        return index_row(f / layout::LEVEL2 % layout::LEVEL2_CODES);
+        return index_row(f / LEVEL2 % LEVEL2_CODES);
     }
     if c == MISC {
         return misc_row(f / layout::UPPER);
@@ -96,10 +107,10 @@ pub fn row_of(c: u32, f: u32) -> u32
         return port_row(f);
     }
     if c == UPPER_BYTES {
-        return byte_row(f / layout::LEVEL2 % layout::LEVEL2_CODES);
+        return byte_row(f / LEVEL2 % LEVEL2_CODES);
     }
     if c == IRQ_SWITCH {
-        return mask_row(f / layout::SWITCH_OFF % 2);
+        return mask_row(f / SWITCH_OFF % 2);
     }
     NONE
 }
