@@ -42,11 +42,14 @@ pub const MISC_ROWS: u64 = {digits(8, [(code, misc.get(code, NO_ROW)) for code i
 '''
 
 
-def codes(): return f'''// The numbers of parts and marks in a row's packed columns (specs/Codes.antt). {WRITTEN}
+def codes(): return f'''// The numbers of parts, options and marks in a row's packed columns (specs/Codes.antt). {WRITTEN}
 
 // what a part holds
 
 {constants('u32', [(p, PARTS.index(p)) for p in NAMED_PARTS])}
+// the options; the last, never, is what is left of a match
+
+{constants('u32', [(o, n) for n, o in enumerate(OPTIONS[:-1])])}
 // the weights of the digits, the flag's being the lowest, and of the marks
 
 {constants('u64', [(c + '-digit', f'0x{16 ** n:x}') for n, c in enumerate(COLUMNS + ['option']) if n] + [('marks', '0x1000000')])}

@@ -214,10 +214,11 @@ partAt n = getD parts n {PARTS[-1]}
 {by_number('optionCode', 'Option', OPTIONS, range(len(OPTIONS)))}
 
 abbrev pub options : List Option
-options = {listed(OPTIONS)}
+options = {listed(OPTIONS[:-1])}
 
+-- any other number is read as {OPTIONS[-1]}
 unfoldable pub optionAt : ℕ → Option
-optionAt n = getD options n never
+optionAt n = getD options n {OPTIONS[-1]}
 
 abbrev pub conditions : List Condition
 conditions = {listed(CONDITIONS[-1:] + CONDITIONS[1:7])}

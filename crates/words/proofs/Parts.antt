@@ -1,11 +1,11 @@
 -- What code asks of a part's number is what is asked of the part.
 -- Assumes nothing.
-use Prim.Native.Nat.{ℕ, zero, suc, _/_, _%_, _<_}
+use Prim.Native.Nat.{ℕ, zero, suc, _/_, _%_, _<_, _≤_}
 use mathlib.Core.Path.{_≡_, refl, ap, sym, _∙_}
 use mathlib.Core.Bool.{Bool, true, false, _&&_}
 use mathlib.Core.List.{List}
 use lib.Dec.{ltb, eqb}
-use lib.ListN.{getD}
+use lib.ListN.{getD, List·getD-eq-default}
 use native.Mathlib.Omega.{arith}
 use borrow.Author.Tests.{le-ltb, eq-eqb, ne-eqb}
 use Rattle.laws.specs.Choice.{pick, is-false, true-is}
@@ -14,9 +14,9 @@ use Rattle.laws.specs.Table.{at-every, values, value-at}
 use Rattle.laws.specs.Test.{Test, no?, _and_, test, imp, Holds, holds}
 use Rattle.words.specs.declared.Config.{Config}
 use Rattle.words.specs.declared.Instruction.{Instruction}
-use Rattle.words.specs.Parts.{Part, unused, flag, byte, coprocessor, register, unit, mask, immediate, read-address, write-address, target, count, bank-address, short, is, inRange, available}
+use Rattle.words.specs.Parts.{Part, unused, flag, byte, coprocessor, register, unit, mask, immediate, read-address, write-address, target, count, bank-address, short, is, inRange, never, available}
 use Rattle.words.specs.Kinds.{unsupported}
-use Rattle.words.specs.Codes.{partCode, partAt, optionAt}
+use Rattle.words.specs.Codes.{partCode, partAt, options, optionAt}
 use Rattle.words.specs.Rows.{Row, rows, noRow, rowAt}
 use Rattle.words.specs.Packed.{unpack, limitOf, limitTable, optionTable, inLimit, fitsLent}
 use Rattle.words.specs.Words.{flagIn, fits}
@@ -79,6 +79,15 @@ pub range-code : (c : Config) (l : List ℕ) (d v : ℕ) → l ≡ limitTable c 
     imp (eqb d 11 && eqb (c .alulevel) 0) (eqb v 1) && ltb v (getD l d 0) ≡ test (inRange c (partAt d) v)
 unfolding limitTable
 range-code c l d v e h = rw (e, value-at (λ n. limitOf c (partAt n)) 16 d 0 h, ← count-code d h) (range-by c (partAt d) v)
+
+-- an option by its number, in an arm of the match and past them
+
+pub option-moved : (c : Config) (n i : ℕ) (b : Bool) → n ≡ i → b ≡ test (available c (optionAt i)) → b ≡ test (available c (optionAt n))
+option-moved c n i b e h = rw e h
+
+pub option-past : (c : Config) (n : ℕ) → 10 ≤ n → false ≡ test (available c (optionAt n))
+unfolding available optionAt
+option-past c n h = sym (ap (λ o. test (available c o)) (List·getD-eq-default options never h))
 
 -- by lent tables
 

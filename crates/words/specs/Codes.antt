@@ -47,8 +47,9 @@ optionCode spr = 9
 optionCode never = 10
 
 abbrev pub options : List Option
-options = always ∷ mult ∷ level1 ∷ level2 ∷ level2-memory ∷ memory ∷ ports ∷ rmw ∷ banks ∷ spr ∷ never ∷ []
+options = always ∷ mult ∷ level1 ∷ level2 ∷ level2-memory ∷ memory ∷ ports ∷ rmw ∷ banks ∷ spr ∷ []
 
+-- any other number is read as never
 unfoldable pub optionAt : ℕ → Option
 optionAt n = getD options n never
 

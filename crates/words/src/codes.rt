@@ -1,4 +1,4 @@
-// The numbers of parts and marks in a row's packed columns (specs/Codes.antt). Written by tools/rows.
+// The numbers of parts, options and marks in a row's packed columns (specs/Codes.antt). Written by tools/rows.
 
 // what a part holds
 
@@ -9,6 +9,28 @@ pub const FLAG: u32 = 1;
 pub const TARGET: u32 = 10;
 
 pub const COUNT: u32 = 11;
+
+// the options; the last, never, is what is left of a match
+
+pub const ALWAYS: u32 = 0;
+
+pub const MULT: u32 = 1;
+
+pub const LEVEL1: u32 = 2;
+
+pub const LEVEL2: u32 = 3;
+
+pub const LEVEL2_MEMORY: u32 = 4;
+
+pub const MEMORY: u32 = 5;
+
+pub const PORTS: u32 = 6;
+
+pub const RMW: u32 = 7;
+
+pub const BANKS: u32 = 8;
+
+pub const SPR: u32 = 9;
 
 // the weights of the digits, the flag's being the lowest, and of the marks
 

@@ -21,21 +21,19 @@ use crate::tables::limit_table;
 pub fn available_in(c: Config, option: u32) -> bool
     ensures { λ r. ⌜ r ≡ test (available c (optionAt option)) ⌝ }
 {
-    let options = [
-        true, // always
-        c.alumult == 1, // mult
-        0 < c.alulevel, // level 1
-        1 < c.alulevel, // level 2
-        (1 < c.alulevel) & (0 < c.dmsize), // level 2 with memory
-        0 < c.dmsize, // memory
-        c.iopif == 1, // ports
-        c.ioprmw == 1, // rmw
-        c.regsize < c.rmsize, // banks
-        c.aluspr == 1, // spr
-        false, // never
-    ];
-    let at = option as usize;
-    if at < 11 { options[at] } else { false }
+    match option {
+        codes::ALWAYS => true,
+        codes::MULT => c.alumult == 1,
+        codes::LEVEL1 => 0 < c.alulevel,
+        codes::LEVEL2 => 1 < c.alulevel,
+        codes::LEVEL2_MEMORY => (1 < c.alulevel) & (0 < c.dmsize),
+        codes::MEMORY => 0 < c.dmsize,
+        codes::PORTS => c.iopif == 1,
+        codes::RMW => c.ioprmw == 1,
+        codes::BANKS => c.regsize < c.rmsize,
+        codes::SPR => c.aluspr == 1,
+        _ => false,
+    }
 }
 
 // Whether v is in the range of what a part holds: below its limit; and at level 0 a shift is by 1.
