@@ -15,16 +15,17 @@ use Rattle.arith.specs.Multiply.{mulOf}
 use Rattle.arith.specs.Alu.{aluOf}
 use Rattle.state.specs.State.{stackLimit}
 use Rattle.state.specs.Ranges.{inRanges, guards}
-use Rattle.state.specs.Plans.{contextOf, enterBankPlan, planOf}
+use Rattle.state.specs.Operands.{operand}
+use Rattle.state.specs.Plans.{computePlan, multiplyPlan, contextOf, enterBankPlan, planOf}
 use Rattle.state.specs.Stops.{stops9to15, stops}
-use Rattle.state.specs.Step.{number, putOf, applied, planAt, advanceOf, stepOf}
+use Rattle.state.specs.Step.{number, putOf, applied, planAt, cyclesOf, advanceOf, stepOf}
 use Rattle.starred.specs.Cases.{StarredCases}
 use Rattle.starred.specs.Readings.{RightReadings}
 
 pub starred-cases : StarredCases
-unfolding pick lawful inRange available marksOf factsFor rows rowAt classOf fieldOf codeAt choices rowIn rowOf flagIn layoutOf upperIn lowerIn valueIn fieldsIn spread fits refusals567 refusals answered partsBy partsOf readOf bits one addOf difference subOf signed subsOf shlOf shrOf absOf leadingZeroBits clzOf mulOf aluOf stackLimit inRanges guards contextOf enterBankPlan planOf stops9to15 stops number putOf applied planAt advanceOf stepOf
+unfolding pick lawful inRange available marksOf factsFor rows rowAt classOf fieldOf codeAt choices rowIn rowOf flagIn layoutOf upperIn lowerIn valueIn fieldsIn spread fits refusals567 refusals answered partsBy partsOf readOf bits one addOf difference subOf signed subsOf shlOf shrOf absOf leadingZeroBits clzOf mulOf aluOf stackLimit inRanges guards operand computePlan multiplyPlan contextOf enterBankPlan planOf stops9to15 stops number putOf applied planAt cyclesOf advanceOf stepOf
 starred-cases = tt
 
 pub right-readings : RightReadings
-unfolding pick lawful inRange available marksOf factsFor rows rowAt classOf fieldOf codeAt choices rowIn rowOf flagIn layoutOf upperIn lowerIn valueIn fieldsIn spread fits refusals567 refusals answered partsBy partsOf readOf bits one absOf aluOf
+unfolding pick lawful inRange available marksOf factsFor rows rowAt classOf fieldOf codeAt choices rowIn rowOf flagIn layoutOf upperIn lowerIn valueIn fieldsIn spread fits refusals567 refusals answered partsBy partsOf readOf bits one addOf absOf aluOf stackLimit inRanges guards operand computePlan planOf stops9to15 stops number putOf applied planAt cyclesOf advanceOf stepOf
 right-readings = tt

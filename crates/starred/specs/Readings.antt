@@ -4,64 +4,36 @@ use mathlib.Core.Bool.{Bool, true, _&&_}
 use mathlib.Core.List.{List, [], _∷_}
 use lib.Dec.{T, eqb}
 use Rattle.laws.specs.Choice.{pick}
-use Rattle.words.specs.declared.Config.{Config}
 use Rattle.words.specs.Words.{partsOf, readOf}
 use Rattle.words.specs.Facts.{factsOf}
-use Rattle.words.specs.declared.Operation.the-variants.{Abs}
-use Rattle.starred.specs.Cases.{configured, full, Case, computes, all-right}
-
--- the full core with a data memory of n words
-abbrev pub withData : ℕ → Config
-withData n =
-    record {
-      imwidth = 32;
-      imsize = 128;
-      regwidth = 32;
-      regsize = 16;
-      rmsize = 64;
-      pcstack = 8;
-      dmsize = n;
-      dmpipe = 0;
-      alulevel = 2;
-      alumult = 1;
-      aluspr = 1;
-      iopif = 1;
-      ioprmw = 1;
-      yamclk = 0;
-      yamsreg3 = 0;
-      alu3op = 0;
-      irqif = 0;
-      copmsize = 0;
-      yamdbg = 0;
-    }
+use Rattle.starred.specs.Cases.{configured, full, pair, stepped, leaves, Case, answers, computes, right}
 
 pub data Reading : Type 0 where
-  answers : Config → ℕ → ℕ → Reading  -- a word in a configuration, and the number that reading it answers
-  bit26 : ℕ → ℕ → Reading  -- a word, and its bit 26 as it is read
+  result : Case → Reading
+  keeps : ℕ → ℕ → ℕ → ℕ → ℕ → ℕ → Reading  -- a word, %02 and %03 before it; %02 after it, Z and N before and after it
   parts : ℕ → ℕ → ℕ → ℕ → Reading  -- a word, and its destination, source and value as they are read
   bars : ℕ → ℕ → Reading  -- a word, and 1 where rule 3 bars its instruction
-  result : Case → Reading
 
 abbrev pub so : Reading → Bool
-so (answers c w n) = eqb (readOf c w .number) n
-so (bit26 w x) = eqb (readOf full w .number) 0 && eqb (readOf full w .instruction .flag) x
+so (result k) = right k
+so (keeps w d s v z n) = leaves (stepped full w (pair full 0 n z 0 d s)) (pair full 1 n z 0 v s)
 so (parts w d s v) =
     let r = readOf full w in
     let i = r .instruction in
     eqb (r .number) 0 && (eqb (i .destination) d && (eqb (i .source) s && eqb (i .value) v))
 so (bars w x) = eqb (readOf full w .number) 0 && eqb (pick (factsOf (partsOf full w .row) .barred) 1 0) x
-so (result k) = all-right (k ∷ [])
 
 abbrev pub readings : List Reading
 readings =
-    answers (configured 16 16 2) 0 0 ∷
-    answers (configured 16 64 2) 0 1 ∷  -- "banks; W must be 32"
-    answers (withData 2) 0 0 ∷
-    answers (withData 1) 0 1 ∷  -- "DM_SIZE 0 or a power of two from 2"
-    answers full 0x00100000 7 ∷  -- a register is compared with REG_SIZE, not with RM_SIZE
-    answers (configured 32 64 0) 0x81000001 0 ∷
-    answers (configured 32 64 0) 0x81000000 7 ∷  -- a count is 1 at level 0
-    bit26 0x04000000 1 ∷
+    result (answers (configured 16 16 2 32) 0 0) ∷
+    result (answers (configured 16 64 2 32) 0 1) ∷  -- "banks; W must be 32"
+    result (answers (configured 32 64 2 2) 0 0) ∷
+    result (answers (configured 32 64 2 1) 0 1) ∷  -- "DM_SIZE 0 or a power of two from 2"
+    result (answers full 0x00100000 7) ∷  -- a register is compared with REG_SIZE, not with RM_SIZE
+    result (answers (configured 32 64 0 32) 0x81000001 0) ∷
+    result (answers (configured 32 64 0 32) 0x81000000 7) ∷  -- a count is 1 at level 0
+    keeps 0x44020003 0xffffffff 1 0 0 0 ∷  -- ADD %02,%03: bit 26 = 1 leaves the flags; with 0 both would be set
+    result (computes 0x90820003 0 0xffffffff 1 0 1) ∷  -- ABS %02,%03,S: N is the source's sign, not the result's
     -- which column a register stands in: a case for each kind that has one
     parts 0x40010002 1 2 0 ∷  -- ADD %01,%02
     parts 0x98040201 4 1 0 ∷  -- BLD0 %04,%01
@@ -82,7 +54,6 @@ readings =
     parts 0xf1020040 2 0 64 ∷  -- JSRWP 0040,020
     bars 0xc8000000 1 ∷  -- JMP @%d
     bars 0xc0000000 0 ∷  -- JMP target
-    result (computes Abs 0 0xffffffff 1 0 1) ∷  -- N of ABS is the source's sign, not the result's
     []
 
 abbrev pub all-so : List Reading → Bool
