@@ -1,11 +1,6 @@
 -- Words of w bits, as numbers below 2 ^ w, and flags as the numbers 0 and 1.
--- Assumes nothing.
-use Prim.Native.Nat.{ℕ, _-_, _*_, _^_, _≤_, _<_}
-use mathlib.Core.Path.{_≡_, sym, ap, _∙_}
+use Prim.Native.Nat.{ℕ, _-_, _^_, _≤_, _<_}
 use mathlib.Core.Bool.{Bool}
-use native.Mathlib.Nat.{sub-add-cancel, pow-suc, mul-comm}
-use native.Mathlib.Numerals.{add-one}
-use native.Mathlib.Omega.{arith}
 use lib.Dec.{leb, eqb}
 use Rattle.laws.specs.Choice.{pick}
 use Rattle.arith.specs.declared.Word.{Word}
@@ -35,9 +30,6 @@ half w = 2 ^ (w - 1)
 
 abbrev pub top : ℕ → ℕ → Bool
 top w a = leb (half w) a
-
-pub twice : (w : ℕ) → 8 ≤ w → 2 ^ w ≡ 2 * half w
-twice w h = ap (λ (k : ℕ). 2 ^ k) (sym (sub-add-cancel {n = w} {m = 1} (omega arith)) ∙ add-one (w - 1)) ∙ pow-suc 2 (w - 1) ∙ mul-comm (half w) 2
 
 -- a result whose Z says that it is zero (4.5)
 abbrev pub wordOf : ℕ → ℕ → Word

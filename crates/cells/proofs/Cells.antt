@@ -24,7 +24,7 @@ use Rattle.words.specs.Claims.{understood}
 use Rattle.words.specs.Facts.{factsFor}
 use Rattle.words.specs.Actions.{flag′, destination′, source′}
 use Rattle.words.specs.Lookup.{entryAt, actionAt, entryKind, reads}
-use Rattle.arith.specs.Fits.{one-le}
+use Rattle.arith.proofs.Fits.{one-le}
 use Rattle.state.specs.Operands.{conditionMet}
 use Rattle.state.specs.Step.{cyclesOf}
 use Rattle.cells.specs.Cell.{actionIn, flagIn, destinationIn, sourceIn, valueIn, takenIn, cyclesIn, valueOf, answersOf, takenOf, used, packed, leaving, turns-on, turns-off, first-apart, cellFor, cellOf, Inside, Carries}

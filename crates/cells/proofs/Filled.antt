@@ -38,7 +38,7 @@ use Rattle.words.proofs.Lookup.{read-row, quick, agrees}
 use Rattle.words.proofs.Clear.{mask-quick}
 use Rattle.words.proofs.Answers.{lawful-read}
 use Rattle.arith.specs.Width.{bits, one}
-use Rattle.arith.specs.Fits.{bits-width, immediate-answer-fits}
+use Rattle.arith.proofs.Fits.{bits-width, immediate-answer-fits}
 use Rattle.state.specs.Operands.{constant, conditionMet}
 use Rattle.state.specs.Step.{cyclesOf}
 use Rattle.cells.specs.Cell.{operandValue, valueOf, takenOf, packed, leaving, first-apart, cellFor, cellOf}

@@ -22,7 +22,7 @@ use Rattle.words.specs.Facts.{factsFor}
 use Rattle.words.specs.declared.Form.{Form}
 use Rattle.words.specs.declared.Operation.{Operation}
 use Rattle.arith.specs.Width.{bits}
-use Rattle.arith.specs.Fits.{Fits, one-le, answer-fits, product-answer-fits, immediate-answer-fits}
+use Rattle.arith.proofs.Fits.{Fits, one-le, answer-fits, product-answer-fits, immediate-answer-fits}
 use Rattle.state.specs.declared.Core.{Core}
 use Rattle.state.specs.declared.Write.{Write}
 use Rattle.state.specs.State.{Env, State, top, stackLimit}

@@ -14,7 +14,7 @@ use Rattle.laws.specs.Lists.{all, all-at, _also_}
 use Rattle.words.specs.declared.Config.{Config}
 use Rattle.words.specs.Configs.{widths, registerSizes, bankSizes, dataSizes, lawful}
 use Rattle.arith.specs.Width.{bits}
-use Rattle.arith.specs.Fits.{bits-lawful, bits-width}
+use Rattle.arith.proofs.Fits.{bits-lawful, bits-width}
 use Rattle.state.specs.State.{Env, State, top, stackLimit}
 use Rattle.state.specs.Ranges.{inRanges, guards}
 use Rattle.state.specs.Claims.{Valid}

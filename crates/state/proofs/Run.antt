@@ -12,7 +12,7 @@ use Rattle.laws.specs.Test.{eq→eqb}
 use Rattle.laws.specs.First.{first-failing}
 use Rattle.words.specs.declared.Config.{Config}
 use Rattle.words.specs.declared.Facts.{Facts}
-use Rattle.arith.specs.Fits.{one-le}
+use Rattle.arith.proofs.Fits.{one-le}
 use Rattle.state.specs.State.{Env, State}
 use Rattle.state.specs.Ranges.{runGuards}
 use Rattle.state.specs.Stops.{factsAt}

@@ -12,7 +12,7 @@ use Rattle.laws.specs.Choice.{pick}
 use Rattle.laws.specs.Test.{Holds, Below}
 use Rattle.words.specs.declared.Config.{Config}
 use Rattle.arith.specs.Width.{bits}
-use Rattle.arith.specs.Fits.{bits-width}
+use Rattle.arith.proofs.Fits.{bits-width}
 use Rattle.state.specs.declared.Core.{Core}
 use Rattle.state.specs.State.{Env, State, top}
 use Rattle.state.specs.Cores.{positioned}

@@ -27,7 +27,7 @@ rotr-code w a h =
     ∙ or-shifted (a % 2) (w - 1) (a / 2) (shr-lt (w - 1) 1 (rw (pred-suc w (h .width .least)) (h .left)))
 
 -- all ones, shifted right by k: w - k ones are left
-pub ones-shr : (w k : ℕ) → (2 ^ w - 1) / 2 ^ k ≡ 2 ^ (w - k) - 1
+ones-shr : (w k : ℕ) → (2 ^ w - 1) / 2 ^ k ≡ 2 ^ (w - k) - 1
 ones-shr w k = go (decLe k w)
   where
     go : Dec (k ≤ w) → (2 ^ w - 1) / 2 ^ k ≡ 2 ^ (w - k) - 1

@@ -13,9 +13,9 @@ use lib.IntN.{pos, negsuc, subℕ, _-ℤ_}
 use lib.Pow.{pow-pos, high-ones}
 use lib.Bits.{bitXor, xor-block, xor-zero-r}
 use Rattle.laws.specs.Choice.{pick}
-use Rattle.arith.specs.Width.{Words, half, top, twice}
+use Rattle.arith.specs.Width.{Words, half, top}
 use Rattle.arith.specs.Sums.{difference, signed, negative}
-use Rattle.arith.proofs.width.Laws.{low-low, power-most, wrapped}
+use Rattle.arith.proofs.width.Laws.{twice, low-low, power-most, wrapped}
 
 pub sum-code : (w a b c : ℕ) → w ≤ 32 → ((a + b) % 2 ^ 32 + c) % 2 ^ 32 % 2 ^ w ≡ (a + b + c) % 2 ^ w
 sum-code w a b c h = ap (λ (k : ℕ). k % 2 ^ w) (mod-add-mod (a + b) (2 ^ 32) c) ∙ low-low (a + b + c) w h
@@ -44,7 +44,7 @@ module _ (w a b c r v : ℕ) (h : Words w a b) (hc : c ≤ 1) (hv : v < 2 ^ 32) 
           wrapped (2 ^ (32 - w) - 1) (omega (arith, m, span w (h .width .most), h .right)) t ∙ sym (mod-eq-of-lt t)
 
 -- flipping the top bit of k + 1 bits
-pub flip : (k a : ℕ) → a < 2 ^ suc k → bitXor a (2 ^ k) ≡ pick (leb (2 ^ k) a) (a - 2 ^ k) (a + 2 ^ k)
+flip : (k a : ℕ) → a < 2 ^ suc k → bitXor a (2 ^ k) ≡ pick (leb (2 ^ k) a) (a - 2 ^ k) (a + 2 ^ k)
 unfolding pick
 flip k a h = go (decLe (2 ^ k) a)
   where

@@ -11,7 +11,7 @@ use lib.Pow.{pow-mono, shr-lt}
 use Rattle.laws.specs.Choice.{pick}
 use Rattle.arith.specs.Unary.{leadingZeroBits}
 
-pub zeros-lead : (k a : ℕ) → a < 2 ^ k → (m : ℕ) × (leadingZeroBits k a + m ≡ k) × (a < 2 ^ m) × (2 ^ m ≤ 2 * a + 1)
+zeros-lead : (k a : ℕ) → a < 2 ^ k → (m : ℕ) × (leadingZeroBits k a + m ≡ k) × (a < 2 ^ m) × (2 ^ m ≤ 2 * a + 1)
 unfolding leadingZeroBits pick
 zeros-lead zero a h = (zero, refl, h, omega arith)
 zeros-lead (suc k) a h = go (λ p. zeros-lead k a p) (decLe (2 ^ k) a)

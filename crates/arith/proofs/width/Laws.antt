@@ -2,10 +2,16 @@
 -- Assumes nothing.
 use Prim.Native.Nat.{ℕ, _+_, _-_, _*_, _%_, _^_, _≤_, _<_}
 use mathlib.Core.Path.{_≡_, sym, ap, _∙_}
-use native.Mathlib.Nat.{mod-eq-of-lt, sub-add-cancel, mod-lt, mul-add-mod-self-right, le-trans}
+use native.Mathlib.Nat.{mod-eq-of-lt, sub-add-cancel, mod-lt, mul-add-mod-self-right, le-trans, pow-suc, mul-comm}
+use native.Mathlib.Numerals.{add-one}
+use native.Mathlib.Omega.{arith}
 use lib.Pow.{pow-pos, pow-mono, mod-mod-pow}
 use lib.Bits.{bitAnd, mask-lt}
-use Rattle.arith.specs.Width.{Width, Words}
+use Rattle.arith.specs.Width.{Width, Words, half}
+
+-- 2 ^ w is twice the weight of the top bit
+pub twice : (w : ℕ) → 8 ≤ w → 2 ^ w ≡ 2 * half w
+twice w h = ap (λ (k : ℕ). 2 ^ k) (sym (sub-add-cancel {n = w} {m = 1} (omega arith)) ∙ add-one (w - 1)) ∙ pow-suc 2 (w - 1) ∙ mul-comm (half w) 2
 
 -- 2 ^ 32 is a multiple of 2 ^ w, so the low w bits of a 32-bit number are those of what it was cut from
 pub low-low : (x w : ℕ) → w ≤ 32 → x % 2 ^ 32 % 2 ^ w ≡ x % 2 ^ w

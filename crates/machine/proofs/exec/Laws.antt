@@ -19,7 +19,7 @@ use Rattle.words.specs.Actions.{flag′, destination′, source′}
 use Rattle.words.specs.Lookup.{actionKind, entryKind, reads}
 use Rattle.arith.specs.Width.{bits, one}
 use Rattle.arith.specs.Alu.{Within}
-use Rattle.arith.specs.Fits.{immediate-answer-fits}
+use Rattle.arith.proofs.Fits.{immediate-answer-fits}
 use Rattle.state.specs.declared.Change.{Change}
 use Rattle.state.specs.State.{top, stackLimit}
 use Rattle.state.specs.Cores.{posting, flagged, indexed, multiplied, deep, masked, banked, taking, logging, off as no-write, write, change, stopped, moved, toRegister, toMemory, toStack, toLog}

@@ -14,7 +14,7 @@ use borrow.Author.Tests.{lt-leb}
 use Rattle.laws.specs.Choice.{pick, either}
 use Rattle.laws.specs.Test.{Member}
 use Rattle.words.specs.Configs.{widths}
-use Rattle.arith.specs.Width.{bits, Width, Words, one, half, top, twice}
+use Rattle.arith.specs.Width.{bits, Width, Words, one, half, top}
 use Rattle.arith.specs.Logic.{andOf, orOf, xorOf}
 use Rattle.arith.specs.Sums.{addOf, difference, subOf, subsOf}
 use Rattle.arith.specs.Shifts.{shlOf, shrOf, shraOf, rotlOf, rotrOf}
@@ -25,6 +25,7 @@ use Rattle.arith.specs.Immediates.{extendOf, immediateOf}
 use Rattle.arith.specs.Alu.{aluOf}
 use Rattle.arith.specs.declared.Word.{Word}
 use Rattle.arith.specs.declared.Product.{Product}
+use Rattle.arith.proofs.width.Laws.{twice}
 use Rattle.words.specs.declared.Form.{Form}
 use Rattle.words.specs.declared.Form.the-variants.{Signed, Unsigned, Shifted}
 use Rattle.words.specs.declared.Operation.{Operation}
@@ -81,7 +82,7 @@ module _ (w d s : ℕ) (h : Words w d s) where
       all = pow-mono {i = w - k} {j = w} (omega arith)
 
   -- of words and a flag
-  pub alu-fits : (o : Operation) (n : ℕ) → n ≤ 1 → Fits w (aluOf w o d s n)
+  alu-fits : (o : Operation) (n : ℕ) → n ≤ 1 → Fits w (aluOf w o d s n)
   unfolding aluOf andOf orOf xorOf addOf subOf subsOf difference shlOf shrOf shraOf rotlOf rotrOf absOf clzOf bstOf bldOf bldsOf extended
   alu-fits And n f = kept _ (and-lt w d s (h .left) (h .right)) f
   alu-fits Or n f = kept _ (or-lt w d s (h .left) (h .right)) f
@@ -109,7 +110,6 @@ module _ (w d s : ℕ) (h : Words w d s) where
   alu-fits (Blds k) n f = flagged _ _ (under (2 ^ w) _ (2 ^ w - 256 + s / 2 ^ (8 * (k % 4)) % 256) (s / 2 ^ (8 * (k % 4)) % 256)
       (λ t. omega (arith, room)) (omega (arith, room)))
 
--- whatever the number, its width is one that the laws take
 -- a lawful REG_WIDTH is the width that is computed at
 pub bits-lawful : (w : ℕ) → Member w widths → bits w ≡ w
 unfolding bits pick
@@ -117,6 +117,7 @@ bits-lawful w (inl e) = rw e
 bits-lawful w (inr (inl e)) = rw e
 bits-lawful w (inr (inr e)) = rw e
 
+-- whatever the number, its width is one that the laws take
 pub bits-width : (n : ℕ) → Width (bits n)
 unfolding bits pick
 bits-width n = go (eqb n 8) (eqb n 16)
@@ -127,7 +128,7 @@ bits-width n = go (eqb n 8) (eqb n 16)
     go false false = record { least = lit≤ tt; most = lit≤ tt }
 
 -- words cut to a width that a number asks for
-pub cut-words : (width d s : ℕ) → Words (bits width) (d % 2 ^ bits width) (s % 2 ^ bits width)
+cut-words : (width d s : ℕ) → Words (bits width) (d % 2 ^ bits width) (s % 2 ^ bits width)
 cut-words width d s = record { width = bits-width width; left = mod-lt d (pow-pos (bits width)); right = mod-lt s (pow-pos (bits width)) }
 
 -- what `alu` answers fits, whatever it is called with
@@ -143,7 +144,7 @@ pub record ProductFits (w : ℕ) (p : Product) : Type 0 where
 mul-lt-mul : {x y m : ℕ} → x < m → y < m → x * y < m * m
 mul-lt-mul {x} {y} {m} p q = lt-of-le-of-lt (mul-le-mul-right y (le-of-lt p)) (mul-lt-mul-of-pos-left q (lt-of-le-of-lt zero-le p))
 
-pub product-fits : (w a b : ℕ) → a < 2 ^ w → b < 2 ^ w → ProductFits w (mulOf w a b)
+product-fits : (w a b : ℕ) → a < 2 ^ w → b < 2 ^ w → ProductFits w (mulOf w a b)
 unfolding mulOf pick
 product-fits w a b ha hb = record {
   word = mod-lt _ (pow-pos w);
@@ -155,7 +156,7 @@ product-fits w a b ha hb = record {
 pub product-answer-fits : (width a b : ℕ) → ProductFits (bits width) (mulOf (bits width) (a % 2 ^ bits width) (b % 2 ^ bits width))
 product-answer-fits width a b = product-fits (bits width) (a % 2 ^ bits width) (b % 2 ^ bits width) (mod-lt a (pow-pos (bits width))) (mod-lt b (pow-pos (bits width)))
 
-pub immediate-fits : (w v : ℕ) (f : Form) → v < 65536 → immediateOf w f v < 2 ^ w
+immediate-fits : (w v : ℕ) (f : Form) → v < 65536 → immediateOf w f v < 2 ^ w
 unfolding immediateOf extendOf
 immediate-fits w v f h = under (2 ^ w) (eqb w 32) (extendOf f v) (v % 2 ^ w) (λ t. rw (eqb→eq w 32 t) (wide f)) (mod-lt v (pow-pos w))
   where
