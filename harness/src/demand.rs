@@ -3,14 +3,28 @@
 use crate::compare::Pair;
 use crate::generate::configs::{self, Size};
 use crate::generate::programs;
-use crate::generate::states::{self, Lists};
+use crate::generate::states;
 use crate::model::config::Config;
-use crate::model::machine::{self, Env};
 use crate::model::step;
 use crate::random::Random;
+use crate::runs;
 
 /// The stops that a step may answer; a run of too many steps also 16.
 const POSSIBLE: [u32; 4] = [0, 13, 14, 15];
+
+/// Where a machine record says how many addresses the return stack holds.
+const DEPTH: usize = 7;
+
+/// What the cases came to.
+#[derive(Clone, Copy, Debug, Default)]
+pub struct DemandSeen {
+    /// Programs that passed the check, and of them those whose stack reached the level at address 0, where that is above 0.
+    pub programs: u64,
+    pub reached: u64,
+    /// Calls and steps in them.
+    pub calls: u64,
+    pub steps: u64,
+}
 
 pub fn case(pair: &mut Pair, r: &mut Random) -> Result<(), String> {
     let config = configs::lawful(r, Size::Small);
@@ -30,54 +44,28 @@ pub fn case(pair: &mut Pair, r: &mut Random) -> Result<(), String> {
     for _ in 0..r.from_to(2, 12) {
         let budget = r.chance(60).then(|| states::budget(r));
         let before = lists.clone();
-        let advanced = pair.advance(&config, &mut lists, budget, &[0; 2])?;
+        let within = budget.filter(|&budget| budget <= step::BUDGET_LIMIT);
+        let (advanced, stepped) = match within {
+            Some(budget) => runs::run(pair, &config, &mut lists, budget).map(|(advanced, stepped)| (advanced, Some(stepped)))?,
+            None => (pair.advance(&config, &mut lists, budget, &[0; 2])?, None),
+        };
         let number = advanced.number;
         let told = || format!("config {config:?}, sheet {:?}, budget {budget:?}, {before:?}", program.sheet);
         let too_many = budget.is_some_and(|budget| budget > step::BUDGET_LIMIT);
         if too_many != (number == 16) || !(too_many || POSSIBLE.contains(&number)) {
             return Err(format!("demand 3: a call answers {number}\n  given: {}", told()));
         }
-        if u64::from(lists.machine[7]) > level {
-            return Err(format!(
-                "demand 3: the stack holds {}, the level at 0 is {level}\n  given: {}",
-                lists.machine[7],
-                told()
-            ));
+        let held = stepped.as_ref().map_or(0, |stepped| stepped.deepest).max(lists.machine[DEPTH]);
+        if u64::from(held) > level {
+            return Err(format!("demand 3: the stack holds {held}, the level at 0 is {level}\n  given: {}", told()));
         }
-        deepest = deepest.max(u64::from(lists.machine[7]));
+        deepest = deepest.max(u64::from(held));
         pair.demand.calls += 1;
-        pair.demand.steps += if budget.is_some() { advanced.answers[0] } else { u64::from(number == 0) };
-        if let Some(budget) = budget.filter(|&budget| budget <= step::BUDGET_LIMIT) {
-            let within = by_single_steps(&c, &before, &lists, budget, level, &advanced.answers)
-                .map_err(|how| format!("demand 3: {how}\n  given: {}", told()))?;
-            deepest = deepest.max(within);
+        pair.demand.steps += stepped.as_ref().map_or(u64::from(number == 0), |stepped| stepped.steps);
+        if stepped.is_some_and(|stepped| !(2 * stepped.steps..=3 * stepped.steps).contains(&stepped.cycles)) {
+            return Err(format!("demand 2: the cycles do not lie between 2 and 3 times the steps\n  given: {}", told()));
         }
     }
     pair.demand.reached += u64::from(level > 0 && deepest == level);
     Ok(())
-}
-
-/// A run is its steps one by one, and the stack stays within its level all the way. Answers the most that it held.
-fn by_single_steps(c: &Config, before: &Lists, after: &Lists, budget: u64, level: u64, answers: &[u64]) -> Result<u64, String> {
-    let mut lists = before.clone();
-    let env = Env { config: c, image: &before.image, inputs: &before.inputs };
-    let mut lent = machine::Lists {
-        registers: &mut lists.registers,
-        memory: &mut lists.memory,
-        log_addresses: &mut lists.log_addresses,
-        log_values: &mut lists.log_values,
-    };
-    let mut m = machine::Machine::from_words(&lists.machine).ok_or("no record")?;
-    let ran = step::run(&env, &mut m, &mut lent, budget);
-    lists.machine = m.to_words().to_vec();
-    if u64::from(ran.deepest) > level {
-        return Err(format!("within the run the stack holds {}, the level at 0 is {level}", ran.deepest));
-    }
-    if [ran.steps, ran.cycles] != answers[..] || &lists != after {
-        return Err("the run is not its steps one by one".to_string());
-    }
-    if ran.cycles < 2 * ran.steps || ran.cycles > 3 * ran.steps {
-        return Err("the cycles do not lie between 2 and 3 times the steps".to_string());
-    }
-    Ok(u64::from(ran.deepest))
 }

@@ -8,15 +8,20 @@ pub mod demand;
 pub mod document;
 pub mod document_texts;
 pub mod generate;
+pub mod inputs;
 pub mod json;
 pub mod model;
 pub mod random;
 pub mod refusals;
 pub mod runs;
+pub mod seen;
+pub mod shrink;
 pub mod speed;
 #[cfg(any(feature = "library", feature = "plain"))]
 pub mod stack;
 pub mod texts;
+#[cfg(test)]
+mod trials;
 pub mod vector_parts;
 pub mod vectors;
 

@@ -1,13 +1,17 @@
 //! Runs beside the model, and beside as many single steps of the library itself.
 
-use crate::calls::State;
+use crate::calls::{Calls, State};
 use crate::cases::config;
 use crate::compare::{Advanced, Pair};
 use crate::generate::configs::{self, Size};
 use crate::generate::spread::spread;
 use crate::generate::states::{self, Lists};
+use crate::generate::words;
+use crate::inputs::{Input, Output, BUDGET, MACHINE};
 use crate::model::config::Config;
+use crate::model::step::BUDGET_LIMIT;
 use crate::random::Random;
+use crate::seen::Done;
 
 /// What the runs came to.
 #[derive(Clone, Copy, Debug, Default)]
@@ -28,12 +32,24 @@ pub struct RunsSeen {
 }
 
 pub const LATE: u64 = 50;
+/// How far apart two addresses are that are called far.
+const FAR: u32 = 4_096;
 
 impl RunsSeen {
     /// Whether everything that is counted was met.
     pub fn all_met(&self) -> bool {
         let RunsSeen { runs, steps, entered, left, late: [five, six, seven], off_end, leaps, leaps_alike } = *self;
         [runs, steps, entered, left, five, six, seven, off_end, leaps, leaps_alike].iter().all(|&count| count > 0)
+    }
+
+    /// A step that was carried out, from one record to the next.
+    fn note(&mut self, config: &[u32], before: &[u32], after: &[u32]) {
+        let (from, to) = (before[PC], after[PC]);
+        self.entered += u64::from(before[MODE] < after[MODE]);
+        self.left += u64::from(before[MODE] > after[MODE]);
+        self.off_end += u64::from(from + 1 == config[0] && to == config[0]);
+        self.leaps += u64::from(from.abs_diff(to) >= FAR);
+        self.leaps_alike += u64::from(from.abs_diff(to) >= FAR && landed_alike(from, to));
     }
 }
 
@@ -52,49 +68,90 @@ fn budget(r: &mut Random) -> u64 {
     }
 }
 
-/// A run, compared with the model, and then made again by single steps of the library: answers, cycles and lists must be the same.
-/// `lists` is left as the run leaves it.
-pub fn run(pair: &mut Pair, config: &[u32], lists: &mut Lists, budget: u64) -> Result<Advanced, String> {
-    let mut again = lists.clone();
-    let given = || format!("config {config:?}, budget {budget}");
-    let ran = pair.advance(config, lists, Some(budget), &[0; 2])?;
-    let (mut number, mut steps, mut cycles) = (0, 0, 0);
-    while steps < budget {
-        let (mut answers, was_special, was_pc) = ([0; 1], again.machine[10], again.machine[0]);
+/// A run's steps one by one: the number that ended them, how many, their cycles, the most addresses that the return stack held after any of
+/// them, and what they leave.
+pub struct Stepped {
+    pub number: u32,
+    pub steps: u64,
+    pub cycles: u64,
+    pub deepest: u32,
+    left: Lists,
+}
+
+/// The words of a machine record that are looked at.
+const PC: usize = 0;
+const DEPTH: usize = 7;
+const MODE: usize = 10;
+
+/// As many single steps of the library as the run may have; `watch` is shown the registers before each that was carried out, and the
+/// machine before and after it.
+fn single_steps(library: &dyn Calls, input: &Input, mut watch: impl FnMut(&[u32], &[u32], &[u32])) -> Stepped {
+    let (config, budget) = (input.arguments[0].value.words(), input.arguments[BUDGET].value.number());
+    let left = input.lists();
+    let mut stepped = Stepped { number: 0, steps: 0, cycles: 0, deepest: 0, left };
+    let lists = &mut stepped.left;
+    while stepped.steps < budget {
+        let (mut answers, machine, registers) = ([0; 1], lists.machine.clone(), lists.registers.clone());
         let state = State {
-            machine: &mut again.machine,
-            registers: &mut again.registers,
-            memory: &mut again.memory,
-            log_addresses: &mut again.log_addresses,
-            log_values: &mut again.log_values,
+            machine: &mut lists.machine,
+            registers: &mut lists.registers,
+            memory: &mut lists.memory,
+            log_addresses: &mut lists.log_addresses,
+            log_values: &mut lists.log_values,
         };
-        number = pair.library.step(config, &again.image, &again.inputs, state, &mut answers);
-        if number != 0 {
+        stepped.number = library.step(config, &lists.image, &lists.inputs, state, &mut answers);
+        if stepped.number != 0 {
             break;
         }
-        steps += 1;
-        cycles += answers[0];
-        pair.runs.entered += u64::from(was_special < again.machine[10]);
-        pair.runs.left += u64::from(was_special > again.machine[10]);
-        let pc = again.machine[0];
-        pair.runs.off_end += u64::from(was_pc + 1 == config[0] && pc == config[0]);
-        pair.runs.leaps += u64::from(was_pc.abs_diff(pc) >= 4_096);
-        pair.runs.leaps_alike += u64::from(was_pc.abs_diff(pc) >= 4_096 && landed_alike(was_pc, pc));
+        stepped.steps += 1;
+        stepped.cycles += answers[0];
+        stepped.deepest = stepped.deepest.max(lists.machine[DEPTH]);
+        watch(&registers, &machine, &lists.machine);
     }
+    stepped
+}
+
+/// How the library's run, given as its output, is not the library's single steps; None where it is.
+fn not_its_steps(input: &Input, ran: &Output, stepped: &Stepped) -> Option<String> {
+    let run = Advanced::of(ran);
+    if run.number != stepped.number || run.answers != [stepped.steps, stepped.cycles] {
+        let told = (run.number, run.answers);
+        let one_by_one = (stepped.number, stepped.steps, stepped.cycles);
+        return Some(format!("the library's run answers {told:?}, its single steps {one_by_one:?}"));
+    }
+    let after = Input::advance(input.arguments[0].value.words(), &stepped.left, Some(0), &[]);
+    let same = (MACHINE..BUDGET).find(|&place| ran.values[place] != after.arguments[place].value);
+    same.map(|place| format!("the library's run leaves another {} than its single steps", input.arguments[place].name))
+}
+
+/// A run, compared with the model, and its library side with as many single steps of the library: number, steps, cycles and lists must
+/// be the same. `lists` is left as the run leaves it.
+pub fn run(pair: &mut Pair, config: &[u32], lists: &mut Lists, budget: u64) -> Result<(Advanced, Stepped), String> {
+    let input = Input::advance(config, lists, Some(budget), &[0; 2]);
+    let ran = pair.compare(&input)?;
+    let (library, runs, seen) = (pair.library, &mut pair.runs, &mut pair.seen);
+    let stepped = single_steps(library, &input, |registers, before, after| {
+        runs.note(config, before, after);
+        seen.note_step(Done::Run, config, &lists.image, registers, before, after);
+    });
     pair.compared += 1;
-    if ran.number != number || ran.answers != [steps, cycles] {
-        let (told, one_by_one) = ((ran.number, ran.answers), (number, steps, cycles));
-        return Err(format!("the run answers {told:?}, its single steps {one_by_one:?}\n  given: {}", given()));
-    }
-    if *lists != again {
-        return Err(format!("the run does not leave what its {steps} single steps leave\n  given: {}", given()));
+    if let Some(said) = not_its_steps(&input, &ran, &stepped) {
+        // Where it may do no step, a run can be refused where no step was asked for; and its answers must have room.
+        let comparable = |input: &&Input| {
+            let [.., budget, answers] = &input.arguments[..] else { return false };
+            (1..=BUDGET_LIMIT).contains(&budget.value.number()) && answers.value.wides().len() == 2
+        };
+        let again = |input: &Input| not_its_steps(input, &input.make(library), &single_steps(library, input, |_, _, _| ()));
+        return Err(pair.tell(&input, said, &|input| Some(input).filter(comparable).and_then(again)));
     }
     pair.runs.runs += 1;
-    pair.runs.steps += steps;
-    if let Some(late) = (5..=7).position(|late| late == number).filter(|_| steps >= LATE) {
+    pair.runs.steps += stepped.steps;
+    if let Some(late) = (5..=7).position(|late| late == stepped.number).filter(|_| stepped.steps >= LATE) {
         pair.runs.late[late] += 1;
     }
-    Ok(ran)
+    let advanced = Advanced::of(&ran);
+    *lists = input.after(ran).lists();
+    Ok((advanced, stepped))
 }
 
 /// Lists with inputs and log enough for many steps.
@@ -119,7 +176,7 @@ fn runs(pair: &mut Pair, r: &mut Random, config: &[u32], c: &Config) -> Result<(
         }
         for _ in 0..r.from_to(1, 3) {
             let budget = budget(r);
-            if run(pair, config, &mut lists, budget)?.number != 0 {
+            if run(pair, config, &mut lists, budget)?.0.number != 0 {
                 break;
             }
         }
@@ -139,4 +196,17 @@ pub fn far_case(pair: &mut Pair, r: &mut Random) -> Result<(), String> {
 pub fn near_case(pair: &mut Pair, r: &mut Random) -> Result<(), String> {
     let (config, c) = config(r, 0);
     runs(pair, r, &config, &c)
+}
+
+/// Short runs in images of any readable words, from machines at random: rows that the other programs leave out, as jumps by register.
+pub fn any_case(pair: &mut Pair, r: &mut Random) -> Result<(), String> {
+    let (config, c) = config(r, 0);
+    let image = (0..c.im_size).map(|_| words::readable(r, &c)).collect();
+    let mut lists = lists(r, &c, image);
+    for _ in 0..12 {
+        lists.machine = states::machine(r, &c, &lists);
+        let budget = u64::from(r.from_to(1, 40));
+        run(pair, &config, &mut lists, budget)?;
+    }
+    Ok(())
 }

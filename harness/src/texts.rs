@@ -1,13 +1,13 @@
 //! Source text into words: short and long texts, and listings read back.
 
 use crate::c_interface::Plain;
-use crate::calls::Calls;
 use crate::cases::{answers, config};
 use crate::compare::{Assembled, Pair};
 use crate::generate::configs::{self, Size};
 use crate::generate::{sources, words};
+use crate::inputs::Input;
 use crate::model::assemble::word_count;
-use crate::model::config::Config;
+use crate::model::config::{Config, CONFIG_WORDS};
 use crate::random::Random;
 
 /// What the cases came to.
@@ -37,17 +37,19 @@ fn lent(r: &mut Random, needed: usize) -> Vec<u32> {
     (0..length as u32).map(|place| mark.wrapping_add(place)).collect()
 }
 
-/// One text through model, library and plain program.
+/// One text through model, library and plain program, which takes a configuration of its own length alone.
 fn compare(pair: &mut Pair, r: &mut Random, config: &[u32], text: &[u8]) -> Result<Assembled, String> {
     let (words, places) = (lent(r, word_count(text)), answers(r, 2));
     let assembled = pair.assemble(config, text, &words, &places)?;
-    if let Ok(config) = <&[u32; 19]>::try_from(config) {
-        let (mut written, mut two) = (words, [7, 7]);
-        let number = Plain.assemble(config, text, &mut written, &mut two);
-        let places = assembled.answers.len().min(2);
-        if number != assembled.number || written != assembled.words || two[..places] != assembled.answers[..places] {
-            let text = String::from_utf8_lossy(text);
-            return Err(format!("the plain assembler: {number} {two:?}, the model {assembled:?}\n  given: {config:?}, {text:?}"));
+    if config.len() == CONFIG_WORDS {
+        let (input, model) = (Input::assemble(config, text, &words, &[7; 2]), pair.model);
+        let differs = |input: &Input| input.difference(["plain C", "model"], &input.make(&Plain), &input.make(model));
+        if let Some(said) = differs(&input) {
+            let whole = |input: &&Input| {
+                let [config, .., answers] = &input.arguments[..] else { return false };
+                config.value.words().len() == CONFIG_WORDS && answers.value.wides().len() == 2
+            };
+            return Err(pair.tell(&input, said, &|input| Some(input).filter(whole).and_then(differs)));
         }
         pair.texts.plain += 1;
     }

@@ -12,10 +12,11 @@ use std::path::PathBuf;
 use std::process::ExitCode;
 use yam_harness::calls::Calls;
 use yam_harness::cases::{Subject, SUBJECTS};
-use yam_harness::compare::{Counts, Pair};
+use yam_harness::compare::Pair;
 use yam_harness::model::Model;
 use yam_harness::random::Random;
 use yam_harness::runs::{RunsSeen, LATE};
+use yam_harness::seen::{Counts, Seen};
 #[cfg(any(feature = "library", feature = "plain"))]
 use yam_harness::stack;
 use yam_harness::{document, document_texts, refusals, vectors, LIBRARY, LIBRARY_NAME};
@@ -105,7 +106,8 @@ fn test(options: &Options) -> Result<bool, String> {
         let shown: String = if whole { difference.clone() } else { difference.chars().take(SHOWN_BYTES).collect() };
         println!("difference {}: {shown}{}", index + 1, if whole { "" } else { " ..." });
     }
-    print_counts(&pair.counts);
+    print_counts(&pair.seen.numbers);
+    pair.seen.print();
     let seen = pair.demand;
     println!(
         "demand 3: {} programs passed, {} of them reached the level at 0 (where above 0), {} calls, {} steps",
@@ -133,7 +135,7 @@ fn test(options: &Options) -> Result<bool, String> {
         runs.late[2]
     );
     println!("{} comparisons, {} cases with a difference", pair.compared, differences.len());
-    let met = options.case.is_some() || every_number_met(&pair.counts) & runs_met(&runs);
+    let met = options.case.is_some() || every_number_met(&pair.seen.numbers) & all_met(&pair.seen) & runs_met(&runs);
     Ok(good && met && differences.is_empty())
 }
 
@@ -200,6 +202,17 @@ fn every_number_met(counts: &Counts) -> bool {
         println!("every call answered every number that it can, 0 to 22, 24 to 26 and 36, and no other");
     }
     met
+}
+
+fn all_met(seen: &Seen) -> bool {
+    let unmet = seen.unmet();
+    for what in unmet.iter().take(SHOWN) {
+        println!("never met: {what}");
+    }
+    if unmet.len() > SHOWN {
+        println!("never met: {} more", unmet.len() - SHOWN);
+    }
+    unmet.is_empty()
 }
 
 fn runs_met(runs: &RunsSeen) -> bool {

@@ -281,19 +281,16 @@ pub struct Ran {
     pub number: u32,
     pub steps: u64,
     pub cycles: u64,
-    /// The most addresses that the return stack held after any of the steps.
-    pub deepest: u32,
 }
 
 /// A run of a state that 1, 2, 3 and 16 let pass.
 pub fn run(env: &Env, m: &mut Machine, lists: &mut Lists, budget: u64) -> Ran {
-    let mut ran = Ran { deepest: m.depth, ..Ran::default() };
+    let mut ran = Ran::default();
     while ran.steps < budget {
         match step(env, m, lists) {
             Ok(cycles) => {
                 ran.steps += 1;
                 ran.cycles += cycles;
-                ran.deepest = ran.deepest.max(m.depth);
             }
             Err(number) => {
                 ran.number = number;

@@ -1,0 +1,208 @@
+//! Trials of the harness itself: sides that are wrong on purpose, which it must find, and make small.
+
+use crate::calls::{Calls, State};
+use crate::cases::SUBJECTS;
+use crate::compare::Pair;
+use crate::generate::configs::{self, Size};
+use crate::generate::states;
+use crate::inputs::{Call, Input, Value};
+use crate::model::config::Config;
+use crate::model::Model;
+use crate::random::Random;
+use crate::runs;
+use crate::seen::Seen;
+use crate::shrink::shrink;
+
+/// What is wrong with a side that else answers as the model does.
+#[derive(Clone, Copy, PartialEq, Eq)]
+enum Fault {
+    /// SUBS takes N the other way round.
+    SubsFlag,
+    /// A run of three steps or more counts a cycle too many.
+    RunCycle,
+    /// A breach of rule 8 is called one of rule 7.
+    Rule,
+    /// A source with "RLD" in it is refused.
+    Source,
+    /// What a text's page has before it and behind it is written.
+    Before,
+    Behind,
+    /// An image that is lent for reading is written.
+    LentToRead,
+}
+
+struct Wrong(Fault);
+
+const N: usize = 4;
+const SUBS: u32 = 0b00111;
+
+/// Writes beside a list, whose neighbours are the guards of the same allocation.
+fn write_beside(list: &[u8], place: isize) {
+    let beside = list.as_ptr().wrapping_offset(place).cast_mut();
+    unsafe { beside.write_volatile(0) };
+}
+
+impl Calls for Wrong {
+    fn read(&self, config: &[u32], word: u32, instruction: &mut [u32]) -> u32 {
+        Model.read(config, word, instruction)
+    }
+    fn write(&self, config: &[u32], instruction: &[u32], answers: &mut [u64]) -> u32 {
+        Model.write(config, instruction, answers)
+    }
+    fn reset(&self, machine: &mut [u32]) -> u32 {
+        Model.reset(machine)
+    }
+    fn step(&self, config: &[u32], image: &[u32], inputs: &[u32], state: State, answers: &mut [u64]) -> u32 {
+        let State { machine, registers, memory, log_addresses, log_values } = state;
+        let word = machine.first().and_then(|&pc| image.get(pc as usize)).copied().unwrap_or(0);
+        let lent = State { machine: &mut *machine, registers, memory, log_addresses, log_values };
+        let number = Model.step(config, image, inputs, lent, answers);
+        if self.0 == Fault::SubsFlag && number == 0 && word >> 27 == SUBS {
+            machine[N] ^= 1;
+        }
+        number
+    }
+    fn run(&self, config: &[u32], image: &[u32], inputs: &[u32], state: State, budget: u64, answers: &mut [u64]) -> u32 {
+        let number = Model.run(config, image, inputs, state, budget, answers);
+        if let (Fault::RunCycle, [steps, cycles]) = (self.0, answers) {
+            *cycles += u64::from(*steps >= 3);
+        }
+        number
+    }
+    fn check(&self, config: &[u32], image: &[u32], sheet: &[u8], answers: &mut [u64]) -> u32 {
+        let number = Model.check(config, image, sheet, answers);
+        if let (Fault::Rule, 17, [_, rule @ 8]) = (self.0, number, answers) {
+            *rule = 7;
+        }
+        number
+    }
+    fn text(&self, config: &[u32], word: u32, page: &mut [u8], place: u64, answers: &mut [u64]) -> u32 {
+        match self.0 {
+            Fault::Before => write_beside(page, -1),
+            Fault::Behind => write_beside(page, page.len() as isize),
+            _ => {}
+        }
+        Model.text(config, word, page, place, answers)
+    }
+    fn list(&self, config: &[u32], image: &[u32], first: u64, page: &mut [u8], place: u64, answers: &mut [u64]) -> u32 {
+        let number = Model.list(config, image, first, page, place, answers);
+        if self.0 == Fault::LentToRead && image.len() > 2 {
+            unsafe { image.as_ptr().cast_mut().add(2).write_volatile(7) };
+        }
+        number
+    }
+    fn load(&self, file: &[u8], config: &mut [u32], image: &mut [u32]) -> u32 {
+        Model.load(file, config, image)
+    }
+    fn store(&self, config: &[u32], image: &[u32], file: &mut [u8]) -> u32 {
+        Model.store(config, image, file)
+    }
+    fn assemble(&self, config: &[u32], text: &[u8], words: &mut [u32], answers: &mut [u64]) -> u32 {
+        if self.0 == Fault::Source && text.windows(3).any(|part| part == b"RLD") {
+            return 26;
+        }
+        Model.assemble(config, text, words, answers)
+    }
+}
+
+fn differ(wrong: &Wrong, input: &Input) -> bool {
+    input.difference(["model", "library"], &input.make(&Model), &input.make(wrong)).is_some()
+}
+
+/// What the cases of a subject say of a side that is wrong, on the first seed that finds it.
+fn found(fault: Fault, subject: &str) -> String {
+    let subject = SUBJECTS.iter().find(|other| other.name == subject).expect("a subject");
+    let wrong = Wrong(fault);
+    let mut pair = Pair::new(&Model, &wrong);
+    let said = (0..2_000).find_map(|seed| (subject.case)(&mut pair, &mut Random::new(seed)).err());
+    said.expect("the fault is found")
+}
+
+/// The lines of the smaller input.
+fn smaller(said: &str) -> Vec<&str> {
+    let lines = said.lines().skip_while(|line| !line.starts_with("  given: "));
+    lines.take_while(|line| !line.starts_with("  made smaller from: ")).map(str::trim).collect()
+}
+
+#[test]
+fn a_wrong_step_is_found_and_made_small() {
+    let said = found(Fault::SubsFlag, "states");
+    let config = "config [1, 32, 8, 8, 1, 0, 0, 0, 0, 0, 0, 0, 0, 0, 0, 0, 0, 32, 0]";
+    assert_eq!(smaller(&said)[..5], ["given: step", config, "image [3b000000]", "inputs []", "machine [0 x 100]"], "{said}");
+    assert!(said.contains("machine[4]: 0x0 and 0x1"), "{said}");
+}
+
+#[test]
+fn a_run_that_is_not_its_steps_is_found_and_made_small() {
+    // Both sides have the same run, so that only the single steps tell.
+    let wrong = Wrong(Fault::RunCycle);
+    let mut pair = Pair::new(&wrong, &wrong);
+    let mut r = Random::new(3);
+    let config = configs::lawful(&mut r, Size::Small);
+    let c = Config::lawful_from_words(&config).expect("a lawful configuration");
+    let mut lists = states::lists(&mut r, &c, vec![0xc000_0000; c.im_size as usize]);
+    let said = runs::run(&mut pair, &config, &mut lists, 500).err().expect("the fault is found");
+    assert!(said.starts_with("the library's run answers (0, [3, 7]), its single steps (0, 3, 6)"), "{said}");
+    assert!(smaller(&said).contains(&"image [c0000000]") && smaller(&said).contains(&"budget 3"), "{said}");
+}
+
+#[test]
+fn a_wrong_rule_is_found_and_made_small() {
+    let said = found(Fault::Rule, "sheets");
+    let lines = smaller(&said);
+    assert_eq!(lines[0], "given: check");
+    // A port write, a port read, and one more address for the read to go on to at most.
+    let image = lines.iter().find_map(|line| line.strip_prefix("image [")).expect("an image");
+    assert!(image.split(", ").count() <= 3, "{said}");
+}
+
+#[test]
+fn a_wrong_source_is_found_and_made_small() {
+    let said = found(Fault::Source, "texts");
+    let text = smaller(&said).into_iter().find(|line| line.starts_with("text ")).expect("a text");
+    assert!(text.contains("RLD") && text.len() <= "text \"RLD %00,#0000\"".len(), "{said}");
+}
+
+#[test]
+fn writes_beside_a_list_and_to_one_lent_for_reading_are_found() {
+    for (fault, subject, wanted) in [
+        (Fault::Before, "words", "page: a guard before or behind the list was written"),
+        (Fault::Behind, "words", "page: a guard before or behind the list was written"),
+        (Fault::LentToRead, "listings", "image: lent for reading, and was written"),
+    ] {
+        let said = found(fault, subject);
+        assert!(said.contains(wanted), "{said}");
+    }
+}
+
+#[test]
+fn a_smaller_input_still_differs() {
+    let wrong = Wrong(Fault::SubsFlag);
+    let mut r = Random::new(5);
+    let mut tried = 0;
+    while tried < 5 {
+        let config = configs::lawful(&mut r, Size::Small);
+        let c = Config::lawful_from_words(&config).expect("a lawful configuration");
+        let image = (0..c.im_size).map(|_| SUBS << 27 | r.below(8) << 16 | r.below(8)).collect();
+        let mut lists = states::lists(&mut r, &c, image);
+        lists.machine = states::machine(&mut r, &c, &lists);
+        let input = Input::advance(&config, &lists, None, &[0; 1]);
+        if differ(&wrong, &input) {
+            let small = shrink(input, &|input| differ(&wrong, input));
+            assert!(differ(&wrong, &small) && small.call == Call::Step);
+            let Value::Words(image) = &small.arguments[1].value else { panic!("an image") };
+            assert_eq!(image.list(), [SUBS << 27]);
+            tried += 1;
+        }
+    }
+}
+
+#[test]
+fn what_was_never_met_is_told() {
+    let unmet = Seen::default().unmet();
+    for what in
+        ["17 never named rule 8", "no listing had ?6", "RETWP was never stepped", "JMP target, GE, was never not taken when run"]
+    {
+        assert!(unmet.iter().any(|told| told == what), "{what}");
+    }
+}
