@@ -105,8 +105,7 @@ impl Calls for Model {
     fn text(&self, config: &[u32], word: u32, page: &mut [u8], place: u64, answers: &mut [u64]) -> u32 {
         let after = (|| {
             let c = Config::lawful_from_words(config).ok_or(1u32)?;
-            let text = listing::word_text(&c, word)?;
-            listing::put(page, place, text.as_bytes()).ok_or(18u32)
+            listing::put_text(&c, word, page, place)
         })();
         answer(answers, &[after.unwrap_or(place)]);
         after.err().unwrap_or(0)

@@ -4,9 +4,8 @@ use super::config::Config;
 use super::text::{text, TEXT_LIMIT};
 use super::words::read;
 
-/// The text of a word, or its number: 5, 6, 7, 23.
-pub fn word_text(c: &Config, word: u32) -> Result<String, u32> {
-    let text = text(&read(c, word)?);
+/// 23, of a text.
+fn not_too_long(text: String) -> Result<String, u32> {
     if text.len() > TEXT_LIMIT {
         Err(23)
     } else {
@@ -16,19 +15,32 @@ pub fn word_text(c: &Config, word: u32) -> Result<String, u32> {
 
 /// "A line: address six digits, space, word eight, space, text or "?" and the number, newline."
 pub fn line(c: &Config, address: usize, word: u32) -> String {
-    let text = word_text(c, word).unwrap_or_else(|number| format!("?{number}"));
+    let text = read(c, word).and_then(|instruction| not_too_long(text(&instruction)));
+    let text = text.unwrap_or_else(|number| format!("?{number}"));
     format!("{address:06x} {word:08x} {text}\n")
 }
 
-/// Puts bytes on the page, whole or not at all.
-pub fn put(page: &mut [u8], place: u64, bytes: &[u8]) -> Option<u64> {
-    let room = (page.len() as u64).checked_sub(place)?;
-    let length = bytes.len() as u64;
-    if length > room {
-        return None;
+fn has_room(page: &[u8], place: u64, bytes: &[u8]) -> bool {
+    (page.len() as u64).checked_sub(place).is_some_and(|room| bytes.len() as u64 <= room)
+}
+
+/// Puts bytes on the page, whole or not at all (18).
+fn put(page: &mut [u8], place: u64, bytes: &[u8]) -> Result<u64, u32> {
+    if !has_room(page, place, bytes) {
+        return Err(18);
     }
-    page[place as usize..(place + length) as usize].copy_from_slice(bytes);
-    Some(place + length)
+    let from = place as usize;
+    page[from..from + bytes.len()].copy_from_slice(bytes);
+    Ok(place + bytes.len() as u64)
+}
+
+/// The text of a word on the page, and the place after it. "Order is the table's": 5, 6, 7, 18, 23.
+pub fn put_text(c: &Config, word: u32, page: &mut [u8], place: u64) -> Result<u64, u32> {
+    let text = text(&read(c, word)?);
+    if !has_room(page, place, text.as_bytes()) {
+        return Err(18);
+    }
+    put(page, place, not_too_long(text)?.as_bytes())
 }
 
 /// The listing from an address to the image's end: number, place and next address.
@@ -40,8 +52,8 @@ pub fn list(c: &Config, image: &[u32], first: u64, page: &mut [u8], place: u64) 
     while next < image.len() as u64 {
         let address = next as usize;
         match put(page, place, line(c, address, image[address]).as_bytes()) {
-            None => return (18, place, next),
-            Some(after) => place = after,
+            Err(number) => return (number, place, next),
+            Ok(after) => place = after,
         }
         next += 1;
     }

@@ -1,4 +1,12 @@
-//! A model of the YAM core written from documents 01 and 02 and the manual alone, to compare the library with. Clear rather than fast.
+//! A model of the YAM core, written from the manual and documents 01 and 02 and not from the definitions in the crates' `specs/`, to
+//! compare the library with. Clear rather than fast.
+//!
+//! What its authors had read, as far as that is written down (docs/landings/base-5-interface.md): the author of all but `assemble` and
+//! `programs` had also read the design paper, README and docs/DECISIONS.md, so decisions on open points are shared with the definitions and
+//! not found a second time. The numbers of rows and the layouts of records are the library's, as include/yam.h gives them. Of `assemble`
+//! nothing is written down but that it is from document 02's words; it came with the assembler, in one landing. `programs`, and the order of
+//! 18 and 23 in `listing`, are by someone who had the repository, with definitions and programs, at hand. The plain C programs have the
+//! model's authors: that they agree with it tells little. Outside vectors are a reading by others.
 
 pub mod alu;
 pub mod assemble;
@@ -6,6 +14,7 @@ pub mod config;
 pub mod image;
 pub mod listing;
 pub mod machine;
+pub mod programs;
 pub mod rows;
 pub mod sheet;
 pub mod step;
