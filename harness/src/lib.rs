@@ -11,6 +11,7 @@ pub mod generate;
 pub mod inputs;
 pub mod json;
 pub mod model;
+pub mod programs;
 pub mod random;
 pub mod refusals;
 pub mod runs;
@@ -33,3 +34,6 @@ pub const LIBRARY: Option<&dyn calls::Calls> = None;
 
 /// What it is called in print.
 pub const LIBRARY_NAME: &str = if cfg!(feature = "plain") { "plain programs, in the library's place" } else { "library" };
+
+/// How many differences of a kind are printed.
+pub const SHOWN: usize = 5;

@@ -1,12 +1,13 @@
 //! Compares the library with the model call by call.
 //!
-//! usage: test [--count N] [--seed S] [--vectors DIR] [--case SUBJECT:SEED]
+//! usage: test [--count N] [--seed S] [--vectors DIR] [--programs DIR] [--case SUBJECT:SEED]
 //!   --count    how many comparisons, at least (2,200,000)
 //!   --seed     where the cases start from (1)
 //!   --vectors  runs outside vectors as well, through the model and through the library
+//!   --programs runs the programs yam_list and yam_asm of that folder as well
 //!   --case     runs one case again, as a difference names it
 //!
-//! Exit status 1 on any difference, or where a call never answered a number that it can.
+//! Exit status 1 on any difference, or where something that is counted was never met.
 
 use std::path::PathBuf;
 use std::process::ExitCode;
@@ -19,21 +20,21 @@ use yam_harness::runs::{RunsSeen, LATE};
 use yam_harness::seen::{Counts, Seen};
 #[cfg(any(feature = "library", feature = "plain"))]
 use yam_harness::stack;
-use yam_harness::{document, document_texts, refusals, vectors, LIBRARY, LIBRARY_NAME};
+use yam_harness::{document, document_texts, programs, refusals, vectors, LIBRARY, LIBRARY_NAME, SHOWN};
 
-/// How many differences are printed, and how much of each.
-const SHOWN: usize = 5;
+/// How much of a difference is printed.
 const SHOWN_BYTES: usize = 3000;
 
 struct Options {
     count: u64,
     seed: u64,
     vectors: Option<PathBuf>,
+    programs: Option<PathBuf>,
     case: Option<(String, u64)>,
 }
 
 fn options() -> Result<Options, String> {
-    let mut options = Options { count: 2_200_000, seed: 1, vectors: None, case: None };
+    let mut options = Options { count: 2_200_000, seed: 1, vectors: None, programs: None, case: None };
     let mut arguments = std::env::args().skip(1);
     while let Some(name) = arguments.next() {
         let value = arguments.next().ok_or(format!("{name} wants a value"))?;
@@ -41,11 +42,15 @@ fn options() -> Result<Options, String> {
             "--count" => options.count = number(&value)?,
             "--seed" => options.seed = number(&value)?,
             "--vectors" => options.vectors = Some(PathBuf::from(value)),
+            "--programs" => options.programs = Some(PathBuf::from(value)),
             "--case" => {
                 let (subject, seed) = value.split_once(':').ok_or("a case is SUBJECT:SEED")?;
                 options.case = Some((subject.to_string(), number(seed)?));
             }
-            _ => return Err(format!("{name} is no option: --count N, --seed S, --vectors DIR, --case SUBJECT:SEED")),
+            _ => {
+                let known = "--count N, --seed S, --vectors DIR, --programs DIR, --case SUBJECT:SEED";
+                return Err(format!("{name} is no option: {known}"));
+            }
         }
     }
     Ok(options)
@@ -90,6 +95,10 @@ fn test(options: &Options) -> Result<bool, String> {
         if let Some(library) = LIBRARY {
             good &= run_vectors(LIBRARY_NAME, library, folder)?;
         }
+    }
+    match &options.programs {
+        Some(folder) => good &= programs::run(folder)?,
+        None => println!("the programs were not given (--programs DIR): not run"),
     }
     let Some(library) = LIBRARY else {
         println!("the library was left out of this build: nothing is compared with the model");

@@ -19,7 +19,7 @@ fn put_word(file: &mut [u8], place: usize, word: u32) {
 }
 
 /// Makes a block's check right again.
-fn mend(file: &mut [u8], block: usize) {
+pub fn mend(file: &mut [u8], block: usize) {
     let start = block * BLOCK_BYTES;
     let words = (0..127).map(|i| word_at(file, start + 4 * i));
     let check = words.fold(512u32, u32::wrapping_add);
