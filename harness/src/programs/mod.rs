@@ -1,6 +1,7 @@
-//! Runs the programs yam_list and yam_asm, and compares what they print with what the model says.
+//! Runs the programs yam_list and yam_asm, and compares what they print with what the model says; and lets their reads and writes fail.
 
 mod cases;
+mod failing;
 
 use crate::model::programs;
 use cases::Case;
@@ -156,9 +157,10 @@ pub fn run(folder: &Path) -> Result<bool, String> {
     std::fs::create_dir_all(&scratch).map_err(|e| format!("{}: {e}", scratch.display()))?;
     let place = Place { programs: folder.to_path_buf(), scratch };
     let mut seen = ProgramsSeen::default();
-    let differences = run_cases(&place, &mut seen)?;
+    let mut differences = run_cases(&place, &mut seen)?;
     println!("the programs beside the model, standard input from a file and from a pipe, 0 for what is not refused:");
     let met = print_seen(&seen);
+    differences.extend(failing::run(&place)?);
     for difference in differences.iter().take(crate::SHOWN) {
         println!("differs: {difference}");
     }
