@@ -17,6 +17,7 @@ pub mod refusals;
 pub mod runs;
 pub mod seen;
 pub mod shrink;
+pub mod signatures;
 pub mod speed;
 #[cfg(any(feature = "library", feature = "plain"))]
 pub mod stack;

@@ -20,7 +20,7 @@ use yam_harness::runs::{RunsSeen, LATE};
 use yam_harness::seen::{Counts, Seen};
 #[cfg(any(feature = "library", feature = "plain"))]
 use yam_harness::stack;
-use yam_harness::{document, document_texts, programs, refusals, vectors, LIBRARY, LIBRARY_NAME, SHOWN};
+use yam_harness::{document, document_texts, programs, refusals, signatures, vectors, LIBRARY, LIBRARY_NAME, SHOWN};
 
 /// How much of a difference is printed.
 const SHOWN_BYTES: usize = 3000;
@@ -82,7 +82,7 @@ fn main() -> ExitCode {
 
 /// True where nothing differs.
 fn test(options: &Options) -> Result<bool, String> {
-    let mut good = run_document("model", &Model) & run_refusals("model", &Model) & refusals_name_calls();
+    let mut good = run_document("model", &Model) & run_refusals("model", &Model) & refusals_name_calls() & signatures::report();
     if let Some(library) = LIBRARY {
         good &= run_document(LIBRARY_NAME, library) & run_refusals(LIBRARY_NAME, library);
     }
