@@ -114,12 +114,11 @@ static void steps(void)
 
 static void certificate(void)
 {
-    uint8_t sheet[WORDS] = {0, 0, 0, 0, 0, 0};
+    static const uint8_t used[WORDS] = {0, 0, 0, 0, 0, 0}, unused[WORDS] = {0, 0, 0, 255, 0, 0};
     uint64_t answers[2] = {MARK, MARK};
-    same("check", yam_check(config, YAM_CONFIG_WORDS, image, WORDS, sheet, WORDS, answers, 2), 0);
+    same("check", yam_check(config, YAM_CONFIG_WORDS, image, WORDS, used, WORDS, answers, 2), 0);
     same("the level", answers[0], 0);
-    sheet[3] = 255;
-    same("check, 3 unused", yam_check(config, YAM_CONFIG_WORDS, image, WORDS, sheet, WORDS, answers, 2), 17);
+    same("check, 3 unused", yam_check(config, YAM_CONFIG_WORDS, image, WORDS, unused, WORDS, answers, 2), 17);
     same("the address", answers[0], 2);
     same("the rule", answers[1], 4);
 }

@@ -73,7 +73,7 @@ fn words_case(pair: &mut Pair, r: &mut Random) -> Result<(), String> {
         let word = words::any(r, &lawful);
         let length = if r.chance(96) { 6 } else { r.below(9) as usize };
         let (number, parts) = pair.read(&config, word, &vec![0xfefe_fefe; length])?;
-        let page = vec![b'.'; r.pick(&[0, 5, 12, 16, 17, 20, 40])];
+        let page = vec![b'.'; r.pick(&[0, 5, 12, 16, 17, 20, 40, 40, 40, 40, 40])];
         let place = match r.below(10) {
             0 => r.wide(),
             1 => page.len() as u64,
@@ -187,7 +187,8 @@ fn listings_case(pair: &mut Pair, r: &mut Random) -> Result<(), String> {
         words.pop();
     }
     for _ in 0..4 {
-        let length = r.pick(&[0, 10, 19, 20, 30, 33, 37, 60, 100, 200, 400, 40 * lawful.im_size]);
+        let whole = 40 * lawful.im_size;
+        let length = r.pick(&[0, 10, 19, 20, 30, 33, 37, 60, 100, 200, 400, whole, whole, whole]);
         let page = vec![b'.'; length as usize];
         let place = match r.below(8) {
             0 => r.wide(),

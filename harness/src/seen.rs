@@ -2,8 +2,8 @@
 
 use crate::inputs::{Call, Input, Output, MACHINE};
 use crate::model::config::Config;
-use crate::model::rows::{rows, Condition, Kind, Need};
-use crate::model::words::read;
+use crate::model::rows::{rows, Condition, Field, Kind, Need};
+use crate::model::words::{read, Instruction};
 use std::collections::BTreeMap;
 
 /// How often each call answered each number.
@@ -38,6 +38,49 @@ const RULES: usize = 8;
 /// What a listing may print in a text's place.
 const MARKS: [u32; 3] = [5, 6, 7];
 
+/// A row, with bit 26 where it has one, at a width.
+#[derive(Clone, Copy, Debug, PartialEq, Eq)]
+struct Form {
+    row: usize,
+    flag: usize,
+    width: usize,
+}
+
+const WIDTHS: [u32; 3] = [8, 16, 32];
+
+impl Form {
+    fn of(c: &Config, instruction: &Instruction) -> Form {
+        let width = WIDTHS.iter().position(|&width| width == c.reg_width).expect("a lawful width");
+        Form { row: instruction.row as usize, flag: instruction.flag as usize, width }
+    }
+
+    /// Every form that some lawful configuration has.
+    fn all() -> impl Iterator<Item = Form> {
+        let forms = (0..rows().len())
+            .flat_map(|row| [0, 1].map(|flag| (row, flag)))
+            .flat_map(|(row, flag)| [0, 1, 2].map(|width| Form { row, flag, width }));
+        forms.filter(|form| {
+            let (row, width) = (&rows()[form.row], WIDTHS[form.width]);
+            let least = match row.need {
+                Need::Level1 | Need::Level2 | Need::Level2Memory => 16,
+                Need::Banks => 32,
+                _ => 8,
+            };
+            row.need != Need::Unsupported && width >= least && (form.flag == 0 || row.uses(Field::Flag))
+        })
+    }
+
+    fn index(self) -> usize {
+        (2 * self.row + self.flag) * WIDTHS.len() + self.width
+    }
+
+    fn name(self) -> String {
+        let row = &rows()[self.row];
+        let updates = if row.uses(Field::Flag) && self.flag == 0 { ",S" } else { "" };
+        format!("{}{updates} at W {}", row.text, WIDTHS[self.width])
+    }
+}
+
 /// A jump: how it was carried out, whether by register, its condition.
 type Jump = (&'static str, bool, &'static str);
 
@@ -46,7 +89,8 @@ pub struct Seen {
     pub numbers: Counts,
     rules: [u64; RULES],
     marks: BTreeMap<u32, u64>,
-    rows: BTreeMap<&'static str, Vec<u64>>,
+    /// By `Form::index`.
+    forms: BTreeMap<&'static str, Vec<u64>>,
     /// Taken, not taken.
     jumps: BTreeMap<Jump, [u64; 2]>,
 }
@@ -79,8 +123,8 @@ impl Seen {
         let given = |place: usize| &input.arguments[place].value;
         match (input.call, output.number) {
             (Call::Check, 17) => self.note_rule(output.values[3].wides()),
-            (Call::Read, 0) => self.note_row(Done::Read, output.values[2].words()[0]),
-            (Call::Write, 0) => self.note_row(Done::Written, given(1).words()[0]),
+            (Call::Read, 0) => self.note_parts(Done::Read, given(0).words(), output.values[2].words()),
+            (Call::Write, 0) => self.note_parts(Done::Written, given(0).words(), given(1).words()),
             (Call::Text, 0) => self.note_word(Done::Printed, given(0).words(), given(1).number() as u32),
             (Call::List, 0 | 18) => {
                 if let [_, next] = *output.values[5].wides() {
@@ -109,17 +153,21 @@ impl Seen {
         }
     }
 
-    fn note_row(&mut self, done: Done, row: u32) {
-        let counts = self.rows.entry(name_of(done)).or_insert_with(|| vec![0; rows().len()]);
-        if let Some(count) = counts.get_mut(row as usize) {
-            *count += 1;
+    fn note_form(&mut self, done: Done, form: Form) {
+        let counts = self.forms.entry(name_of(done)).or_insert_with(|| vec![0; 2 * rows().len() * WIDTHS.len()]);
+        counts[form.index()] += 1;
+    }
+
+    fn note_parts(&mut self, done: Done, config: &[u32], parts: &[u32]) {
+        if let Some((c, instruction)) = Config::lawful_from_words(config).zip(Instruction::from_words(parts)) {
+            self.note_form(done, Form::of(&c, &instruction));
         }
     }
 
     fn note_word(&mut self, done: Done, config: &[u32], word: u32) {
-        let read = Config::lawful_from_words(config).and_then(|c| read(&c, word).ok());
-        if let Some(instruction) = read {
-            self.note_row(done, instruction.row);
+        let Some(c) = Config::lawful_from_words(config) else { return };
+        if let Ok(instruction) = read(&c, word) {
+            self.note_form(done, Form::of(&c, &instruction));
         }
     }
 
@@ -129,7 +177,7 @@ impl Seen {
         let lines = image.iter().zip(0u64..).filter(|(_, address)| (first..next).contains(address));
         for (&word, _) in lines {
             match read(&c, word) {
-                Ok(instruction) => self.note_row(Done::Listed, instruction.row),
+                Ok(instruction) => self.note_form(Done::Listed, Form::of(&c, &instruction)),
                 Err(number) => *self.marks.entry(number).or_default() += 1,
             }
         }
@@ -138,10 +186,9 @@ impl Seen {
     /// A step that was carried out, from one record to the next; `registers` as they were before it.
     pub fn note_step(&mut self, done: Done, config: &[u32], image: &[u32], registers: &[u32], before: &[u32], after: &[u32]) {
         let (pc, after) = (before[PC], after[PC]);
-        let word = image.get(pc as usize).copied();
-        let c = Config::lawful_from_words(config);
-        let Some(instruction) = c.zip(word).and_then(|(c, word)| read(&c, word).ok()) else { return };
-        self.note_row(done, instruction.row);
+        let Some((c, &word)) = Config::lawful_from_words(config).zip(image.get(pc as usize)) else { return };
+        let Ok(instruction) = read(&c, word) else { return };
+        self.note_form(done, Form::of(&c, &instruction));
         let (register, condition, target) = match instruction.row().kind {
             Kind::Jump(condition) => (false, condition, instruction.value),
             Kind::JumpRegister(condition) => {
@@ -167,11 +214,9 @@ impl Seen {
             unmet.push(format!("no listing had ?{mark}"));
         }
         for (_, name) in ALL_DONE {
-            let counts = self.rows.get(name);
-            for (index, row) in rows().iter().enumerate().filter(|(_, row)| row.need != Need::Unsupported) {
-                if counts.is_none_or(|counts| counts[index] == 0) {
-                    unmet.push(format!("{} was never {name}", row.text));
-                }
+            let counts = self.forms.get(name);
+            for form in Form::all().filter(|form| counts.is_none_or(|counts| counts[form.index()] == 0)) {
+                unmet.push(format!("{} was never {name}", form.name()));
             }
         }
         for (how, register, condition, able) in jumps() {
@@ -192,13 +237,17 @@ impl Seen {
         let each = |counts: Vec<String>| counts.join(", ");
         let rules = (1..).zip(&self.rules).map(|(rule, count): (u32, _)| format!("{rule}: {count}"));
         println!("17 by rule: {}", each(rules.collect()));
-        let supported = rows().iter().enumerate().filter(|(_, row)| row.need != Need::Unsupported);
-        let fewest = |counts: &Vec<u64>| supported.clone().map(|(index, row)| (counts[index], row.text.clone())).min();
-        let rows = ALL_DONE.iter().filter_map(|(_, name)| {
-            let (count, text) = self.rows.get(name).and_then(fewest)?;
-            Some(format!("{name} {count} ({text})"))
+        let fewest = |counts: &Vec<u64>| Form::all().map(|form| (counts[form.index()], form.name())).min();
+        let fewest_each = ALL_DONE.iter().filter_map(|(_, name)| {
+            let (count, form) = self.forms.get(name).and_then(fewest)?;
+            Some(format!("{name} {count} ({form})"))
         });
-        println!("{} rows, each at least so often: {}", supported.clone().count(), each(rows.collect()));
+        let supported = rows().iter().filter(|row| row.need != Need::Unsupported).count();
+        println!(
+            "{supported} rows, {} with bit 26 and W, each at least so often: {}",
+            Form::all().count(),
+            each(fewest_each.collect())
+        );
         for (done, register) in [("stepped", false), ("stepped", true), ("run", false), ("run", true)] {
             let conditions = jumps().filter(|(how, by, ..)| (*how, *by) == (done, register)).map(|(.., condition, _)| {
                 let [taken, not_taken] = self.jumps.get(&(done, register, condition)).copied().unwrap_or_default();

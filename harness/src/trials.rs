@@ -200,9 +200,12 @@ fn a_smaller_input_still_differs() {
 #[test]
 fn what_was_never_met_is_told() {
     let unmet = Seen::default().unmet();
-    for what in
-        ["17 never named rule 8", "no listing had ?6", "RETWP was never stepped", "JMP target, GE, was never not taken when run"]
-    {
+    for what in [
+        "17 never named rule 8",
+        "no listing had ?6",
+        "RETWP at W 32 was never stepped",
+        "JMP target, GE, was never not taken when run",
+    ] {
         assert!(unmet.iter().any(|told| told == what), "{what}");
     }
 }
