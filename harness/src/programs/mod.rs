@@ -170,3 +170,35 @@ pub fn run(folder: &Path) -> Result<bool, String> {
     }
     Ok(met && differences.is_empty())
 }
+
+#[cfg(test)]
+mod tests {
+    use super::*;
+
+    fn printed(output: &str, error: &str, status: i32) -> Printed {
+        Printed { output: output.into(), error: error.into(), status: Some(status) }
+    }
+
+    #[test]
+    fn what_is_printed_otherwise_is_found() {
+        let wanted = b"refused 19\n";
+        assert_eq!(difference(&printed("refused 19\n", "", 0), wanted), None);
+        for other in [
+            printed("refused 19", "", 0),
+            printed("refused 19\n\n", "", 0),
+            printed("", "", 0),
+            printed("refused 20\n", "", 0),
+            printed("refused 19\n", "a word", 0),
+            printed("refused 19\n", "", 1),
+        ] {
+            assert!(difference(&other, wanted).is_some());
+        }
+    }
+
+    #[test]
+    fn pieces_are_the_input() {
+        let input: Vec<u8> = (0..200_000u32).map(|i| (i % 251) as u8).collect();
+        assert_eq!(pieces(&input).collect::<Vec<_>>().concat(), input);
+        assert_eq!(pieces(&[]).count(), 0);
+    }
+}
