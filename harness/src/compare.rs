@@ -8,9 +8,7 @@ use crate::runs::RunsSeen;
 use crate::seen::Seen;
 use crate::shrink::shrink;
 use crate::texts::TextsSeen;
-
-/// How many differences are made smaller; of the others what was given is said as it was.
-const MADE_SMALLER: u32 = 5;
+use crate::SHOWN;
 
 /// Both sides, and what was seen so far.
 pub struct Pair<'a> {
@@ -21,7 +19,8 @@ pub struct Pair<'a> {
     pub demand: DemandSeen,
     pub texts: TextsSeen,
     pub runs: RunsSeen,
-    made_smaller: u32,
+    /// How many differences were made smaller: as many as are shown, of others what was given is said as it was.
+    made_smaller: usize,
 }
 
 /// How two sides answer an input differently; None where they do not.
@@ -48,16 +47,16 @@ impl<'a> Pair<'a> {
         let difference = |input: &Input, (a, b): &(Output, Output)| input.difference(["model", "library"], a, b);
         self.compared += 1;
         let outputs = sides(input);
-        self.seen.note(input, &outputs.1);
-        match difference(input, &outputs) {
-            None => Ok(outputs.1),
-            Some(said) => Err(self.tell(input, said, &|input| difference(input, &sides(input)))),
+        if let Some(said) = difference(input, &outputs) {
+            return Err(self.tell(input, said, &|input| difference(input, &sides(input))));
         }
+        self.seen.note(input, &outputs.1);
+        Ok(outputs.1)
     }
 
     /// A difference, on an input that was made smaller.
     pub fn tell(&mut self, input: &Input, said: String, differs: Differs) -> String {
-        if self.made_smaller == MADE_SMALLER {
+        if self.made_smaller == SHOWN {
             return format!("{said}\n  given: {input}");
         }
         self.made_smaller += 1;

@@ -120,8 +120,8 @@ fn not_its_steps(input: &Input, ran: &Output, stepped: &Stepped) -> Option<Strin
         return Some(format!("the library's run answers {told:?}, its single steps {one_by_one:?}"));
     }
     let after = Input::advance(input.arguments[0].value.words(), &stepped.left, Some(0), &[]);
-    let same = (MACHINE..BUDGET).find(|&place| ran.values[place] != after.arguments[place].value);
-    same.map(|place| format!("the library's run leaves another {} than its single steps", input.arguments[place].name))
+    let other = (MACHINE..BUDGET).find(|&place| ran.values[place] != after.arguments[place].value);
+    other.map(|place| format!("the library's run leaves another {} than its single steps", input.arguments[place].name))
 }
 
 /// A run, compared with the model, and its library side with as many single steps of the library: number, steps, cycles and lists must

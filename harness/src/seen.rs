@@ -117,7 +117,7 @@ const PC: usize = 0;
 const WP: usize = 1;
 
 impl Seen {
-    /// Counts a call by what it was given and what the library answered.
+    /// Counts a call by what it was given and what both sides answered.
     pub fn note(&mut self, input: &Input, output: &Output) {
         *self.numbers.entry(input.call.name()).or_default().entry(output.number).or_default() += 1;
         let given = |place: usize| &input.arguments[place].value;
