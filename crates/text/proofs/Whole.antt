@@ -1,32 +1,34 @@
 -- A listing prints whole lines: all of them on a page that is large enough, the same in two parts as in one, and it touches no other byte.
 -- Assumes nothing.
-use Prim.Native.Nat.{ℕ, zero, suc, _+_, _-_, _≤_}
+use Prim.Native.Nat.{ℕ, zero, suc, _+_, _-_, _/_, _%_, _≤_, _<_}
 use mathlib.Core.Path.{_≡_, refl, sym, ap, _∙_}
 use mathlib.Core.Bool.{Bool, true, false}
 use mathlib.Core.List.{List, [], _∷_, _++_, append-assoc}
 use native.Mathlib.Nat.{add-zero, zero-add, add-suc, suc-add}
 use native.Mathlib.Omega.{arith}
-use borrow.Author.Tests.{le-ltb, le-leb, leb-true, eqb-true, eqb-false, ne-eqb}
-use lib.Dec.{eqb, leb}
-use lib.ListN.{length, take, drop, length-append}
+use borrow.Author.Tests.{le-ltb, le-leb, ltb-false, leb-true, eqb-true, eqb-false, ne-eqb}
+use lib.Dec.{eqb, leb, ltb}
+use lib.ListN.{length, getD, take, drop, length-append}
 use lib.Seq.{sets-eq, slice, slice-empty, length-take-le, take-append-le, take-at, drop-at}
-use Rattle.laws.specs.Choice.{pick, is-true}
+use Rattle.laws.specs.Choice.{pick, either, is-true, is-false}
 use Rattle.laws.specs.First.{numbered, none-fails, obeyed}
 use Rattle.laws.specs.Test.{Holds, same, most, test, tests}
 use Rattle.words.specs.declared.Config.{Config}
 use Rattle.words.specs.Configs.{lawful}
 use Rattle.words.specs.Claims.{understood}
-use Rattle.words.specs.Words.{Read, readOf}
+use Rattle.words.specs.Words.{Read, readLawful, readOf}
 use Rattle.words.proofs.Answers.{lawful-read}
 use Rattle.syntax.specs.Claims.{textOfWord}
+use Rattle.syntax.specs.Forms.{textOf}
 use Rattle.syntax.proofs.Lengths.{text-short}
 use Rattle.text.specs.declared.Listed.{Listed}
 use Rattle.text.specs.Pages.{written}
-use Rattle.text.specs.Texts.{shownText, wordText}
+use Rattle.text.specs.Texts.{textLimit, decimal, refusedText, shownText, wordText}
 use Rattle.text.specs.Lines.{lineAt, linesFrom, Listing, listing, listed, listNumber, listOf}
 use Rattle.text.specs.Answers.{listedOf}
-use Rattle.text.specs.Claims.{linesToEnd, printedFrom, ListsWhole, ListsInParts, ListsKeep, ListsTexts, Lists}
+use Rattle.text.specs.Claims.{linesToEnd, printedFrom, lineFrame, ListsWhole, ListsInParts, ListsOn, ListsForward, ListsKeep, ListsTexts, Lists}
 use Rattle.text.proofs.writers.Laws.{sets-append, length-written}
+use Rattle.text.proofs.listing.Laws.{length-line}
 
 -- what is written, part by part
 
@@ -84,11 +86,12 @@ record Did (c : Config) (image page : List ℕ) (place a n : ℕ) (r : Listing) 
   page-is : r .page ≡ written page place (linesFrom c image a lines)
   fits : place + length (linesFrom c image a lines) ≤ length page
   passed : r .number ≡ 0 → lines ≡ n
+  stopped : (r .number ≡ 0 → ⊥) → lines < n
 
-none-done : (c : Config) (image page : List ℕ) (place a n number : ℕ) → place ≤ length page → (number ≡ 0 → 0 ≡ n) →
+none-done : (c : Config) (image page : List ℕ) (place a n number : ℕ) → place ≤ length page → (number ≡ 0 → 0 ≡ n) → ((number ≡ 0 → ⊥) → 0 < n) →
     Did c image page place a n (listing number place a page)
 unfolding linesFrom
-none-done c image page place a n number h z =
+none-done c image page place a n number h z y =
     record {
       lines = 0;
       at-most = omega arith;
@@ -97,6 +100,7 @@ none-done c image page place a n number h z =
       page-is = sym (written-none page place);
       fits = omega arith;
       passed = z;
+      stopped = y;
     }
 
 one-more : (c : Config) (image page : List ℕ) (place a n : ℕ) (r : Listing) → place + length (lineAt c image a) ≤ length page →
@@ -114,11 +118,12 @@ one-more c image page place a n r h d =
       page-is = d .page-is ∙ sym (written-append page place t (linesFrom c image (suc a) k)) ∙ ap (λ (x : List ℕ). written page place x) (sym e);
       fits = omega (arith, l, d .fits, length-written page place t);
       passed = λ z. ap suc (d .passed z);
+      stopped = λ z. omega (arith, d .stopped z);
     }
 
 did : (c : Config) (image : List ℕ) (n : ℕ) (page : List ℕ) (place a : ℕ) → place ≤ length page → Did c image page place a n (listed c image page place a n)
 unfolding listed pick
-did c image zero page place a h = none-done c image page place a 0 0 h (λ z. refl)
+did c image zero page place a h = none-done c image page place a 0 0 h (λ z. refl) (λ z. absurd (z refl))
 did c image (suc n) page place a h =
     go (leb (place + length (lineAt c image a)) (length page)) refl
     (λ k. did c image n (written page place (lineAt c image a)) (place + length (lineAt c image a)) (suc a) (rw length-written k))
@@ -130,7 +135,7 @@ did c image (suc n) page place a h =
         Did c image page place a (suc n)
         (pick b (listed c image (written page place (lineAt c image a)) (place + length (lineAt c image a)) (suc a) n) (listing 18 place a page))
     go true e ih = let k = leb-true (place + length (lineAt c image a)) (length page) e in one-more c image page place a n _ k (ih k)
-    go false e ih = none-done c image page place a (suc n) 18 h (λ z. absurd (omega arith))
+    go false e ih = none-done c image page place a (suc n) 18 h (λ z. absurd (omega arith)) (λ z. omega arith)
 
 -- where all lines fit, all are listed
 all-fit : (c : Config) (image : List ℕ) (n : ℕ) (page : List ℕ) (place a : ℕ) → place + length (linesFrom c image a n) ≤ length page →
@@ -214,35 +219,86 @@ lists-whole c image page place l e h =
     (d .next-is ∙ omega (arith, k))
     (d .page-is ∙ rw k)
 
--- the two parts of a listing, where the first one printed k lines
-parts-by : (c : Config) (image : List ℕ) (first : ℕ) (page : List ℕ) (place k : ℕ) (new : List ℕ) →
-    k ≤ length image - first → listOf c image first page place .next ≡ first + k →
-    printedFrom place (listOf c image first page place) ≡ linesFrom c image first k →
-    listOf c image (listOf c image first page place .next) new 0 .number ≡ 0 →
-    printedFrom place (listOf c image first page place) ++ printedFrom 0 (listOf c image (listOf c image first page place .next) new 0) ≡
-    linesToEnd c image first
-parts-by c image first page place k new h e p z =
-    let one = listOf c image first page place in
-    let m : length image - (first + k) ≡ length image - first - k = omega arith in
+-- what is printed, and the lines after it
+
+after-lines : (c : Config) (image : List ℕ) (first k next : ℕ) → k ≤ length image - first → next ≡ first + k →
+    linesFrom c image first k ++ linesToEnd c image next ≡ linesToEnd c image first
+after-lines c image first k next h e =
+    let m : length image - next ≡ length image - first - k = omega arith in
     let s : k + (length image - first - k) ≡ length image - first = omega arith in
-    rw (p, passed-prints c image (one .next) new 0 z, e, m)
-    (sym (lines-add c image first k (length image - first - k)) ∙ ap (linesFrom c image first) s)
+    rw (m, e) (sym (lines-add c image first k (length image - first - k)) ∙ ap (linesFrom c image first) s)
+
+pub lists-on : ListsOn
+lists-on c image first page place = go (eqb (listNumber c (length image) (length page) place) 0) refl
+  where
+    go : (b : Bool) → eqb (listNumber c (length image) (length page) place) 0 ≡ b →
+        let r = listOf c image first page place in
+        (printedFrom place r ++ linesToEnd c image (r .next) ≡ linesToEnd c image first) × (r .number ≡ 0 → linesToEnd c image (r .next) ≡ [])
+    go true e =
+        let d = list-did c image first page place (eqb-true (listNumber c (length image) (length page) place) 0 e) in (
+          ap (λ (t : List ℕ). t ++ linesToEnd c image (listOf c image first page place .next)) (did-print c image first page place d)
+              ∙ after-lines c image first (d .lines) _ (d .at-most) (d .next-is),
+          λ z.
+              let k = d .passed z in
+              let n : length image - listOf c image first page place .next ≡ 0 = omega (arith, d .next-is, d .at-most, k) in
+              rw n (lines-none c image (listOf c image first page place .next)),
+        )
+    go false e =
+        let f = eqb-false (listNumber c (length image) (length page) place) 0 e in
+        let r = refused-is c image first page place f in (
+          ap (λ (x : Listing). printedFrom place x ++ linesToEnd c image (x .next)) r ∙ ap (λ (t : List ℕ). t ++ linesToEnd c image first) (slice-empty place page),
+          λ z. absurd (f (not-refused c image first page place z)),
+        )
 
 pub lists-in-parts : ListsInParts
 lists-in-parts c image first page place new wide from z y =
-    go (eqb (listNumber c (length image) (length page) place) 0) refl ∙ sym (passed-prints c image first wide from y)
-  where
-    go : (b : Bool) → eqb (listNumber c (length image) (length page) place) 0 ≡ b →
-        printedFrom place (listOf c image first page place) ++ printedFrom 0 (listOf c image (listOf c image first page place .next) new 0) ≡
-        linesToEnd c image first
-    go true e =
-        let d = list-did c image first page place (eqb-true (listNumber c (length image) (length page) place) 0 e) in
-        parts-by c image first page place (d .lines) new (d .at-most) (d .next-is) (did-print c image first page place d) z
-    go false e =
-        let r = refused-is c image first page place (eqb-false (listNumber c (length image) (length page) place) 0 e) in
-        parts-by c image first page place 0 new (omega arith) (ap (λ (x : Listing). x .next) r ∙ sym (add-zero first))
-        (ap (printedFrom place) r ∙ slice-empty place page ∙ sym (lines-none c image first))
-        z
+    let one = listOf c image first page place in
+    ap (λ (t : List ℕ). printedFrom place one ++ t) (passed-prints c image (one .next) new 0 z) ∙ lists-on c image first page place .0
+    ∙ sym (passed-prints c image first wide from y)
+
+-- a line is short, and where it has room it is printed
+
+decimal-short : (n : ℕ) → length (decimal n) ≤ 2
+unfolding decimal
+decimal-short n = either (λ (t : List ℕ). length t ≤ 2) (ltb n 10) ((n + 48) ∷ []) ((n / 10 + 48) ∷ (n % 10 + 48) ∷ []) (λ t. omega arith) (λ t. omega arith)
+
+refused-short : (n : ℕ) → length (refusedText n) ≤ textLimit
+unfolding refusedText
+refused-short n = omega (arith, decimal-short n)
+
+word-short : (c : Config) (w : ℕ) → length (wordText c w) ≤ textLimit
+unfolding wordText shownText
+word-short c w =
+    let r = readLawful c w in
+    let t = textOf c (r .instruction) in
+    either (λ (s : List ℕ). length s ≤ textLimit) (eqb (r .number) 0) (pick (ltb textLimit (length t)) (refusedText 23) t) (refusedText (r .number))
+    (λ z. either (λ (s : List ℕ). length s ≤ textLimit) (ltb textLimit (length t)) (refusedText 23) t (λ y. refused-short 23) (λ y. ltb-false textLimit (length t) (is-false _ y)))
+    (λ z. refused-short (r .number))
+
+line-short : (c : Config) (image : List ℕ) (a : ℕ) → length (lineAt c image a) ≤ textLimit + lineFrame
+unfolding lineAt
+line-short c image a = let w = getD image a 0 in omega (arith, word-short c w, length-line a w (wordText c w))
+
+goes-forward : (c : Config) (image : List ℕ) (n : ℕ) (page : List ℕ) (place a : ℕ) → place + (textLimit + lineFrame) ≤ length page →
+    (listed c image page place a n .number ≡ 0 → ⊥) → (a < listed c image page place a n .next) × (listed c image page place a n .next < a + n)
+unfolding listed pick
+goes-forward c image zero page place a h z = absurd (z refl)
+goes-forward c image (suc n) page place a h z =
+    let t = lineAt c image a in
+    let k : place + length t ≤ length page = omega (arith, line-short c image a) in
+    let e : listed c image page place a (suc n) ≡ listed c image (written page place t) (place + length t) (suc a) n = rw (le-leb (place + length t) (length page) k) in
+    let d = did c image n (written page place t) (place + length t) (suc a) (rw length-written k) in
+    let s = d .stopped (λ y. z (ap (λ (r : Listing). r .number) e ∙ y)) in
+    let m : listed c image page place a (suc n) .next ≡ suc a + d .lines = ap (λ (r : Listing). r .next) e ∙ d .next-is in
+    (omega (arith, m), omega (arith, m, s))
+
+pub lists-forward : ListsForward
+lists-forward c image first page place l e h z =
+    let n = length image - first in
+    let i = listed-is c image first page place (started c image first page place l e (omega arith)) in
+    let g = goes-forward c image n page place first h (λ y. z (ap (λ (r : Listing). r .number) i ∙ y)) in
+    let m : listOf c image first page place .next ≡ listed c image page place first n .next = ap (λ (r : Listing). r .next) i in
+    (omega (arith, m, g .0), omega (arith, m, g .0, g .1))
 
 abbrev Keeps : List ℕ → ℕ → Listing → Type 0
 Keeps page place r =
@@ -275,4 +331,4 @@ lists-texts c w h e =
 
 pub lists : (c : Config) (image : List ℕ) (first : ℕ) (page : List ℕ) (place : ℕ) (r : Listed) (after : List ℕ) →
     listedOf r after ≡ listOf c image first page place → Lists c image first page place r after
-lists c image first page place r after e = record { answer = e; whole = lists-whole; parts = lists-in-parts; keeps = lists-keep; texts = lists-texts }
+lists c image first page place r after e = record { answer = e; whole = lists-whole; parts = lists-in-parts; on = lists-on; forward = lists-forward; keeps = lists-keep; texts = lists-texts }

@@ -1,7 +1,7 @@
 -- What is proved of a listing beside the equation. The contract of `list` cites these, so that none can be dropped.
-use Prim.Native.Nat.{ℕ, _+_, _-_, _≤_}
+use Prim.Native.Nat.{ℕ, _+_, _-_, _≤_, _<_}
 use mathlib.Core.Path.{_≡_}
-use mathlib.Core.List.{List, _++_}
+use mathlib.Core.List.{List, [], _++_}
 use lib.ListN.{length, take, drop}
 use lib.Seq.{slice}
 use Rattle.laws.specs.Test.{Holds}
@@ -11,7 +11,7 @@ use Rattle.words.specs.Words.{readOf}
 use Rattle.syntax.specs.Claims.{textOfWord}
 use Rattle.text.specs.declared.Listed.{Listed}
 use Rattle.text.specs.Pages.{written}
-use Rattle.text.specs.Texts.{wordText}
+use Rattle.text.specs.Texts.{textLimit, wordText}
 use Rattle.text.specs.Lines.{linesFrom, Listing, listing, listOf}
 use Rattle.text.specs.Answers.{listedOf}
 
@@ -40,6 +40,23 @@ ListsInParts =
     let whole = listOf c image first wide from in
     two .number ≡ 0 → whole .number ≡ 0 → printedFrom place one ++ printedFrom 0 two ≡ printedFrom from whole
 
+-- Page by page: what a listing prints, and then the lines from the answered address on, are the lines from its first address on. Where it passes, none is left.
+abbrev pub ListsOn : Type 0
+ListsOn =
+    (c : Config) (image : List ℕ) (first : ℕ) (page : List ℕ) (place : ℕ) → let r = listOf c image first page place in
+    (printedFrom place r ++ linesToEnd c image (r .next) ≡ linesToEnd c image first) × (r .number ≡ 0 → linesToEnd c image (r .next) ≡ [])
+
+-- a line's bytes beside its text
+abbrev pub lineFrame : ℕ
+lineFrame = 17
+
+-- A listing that 1 and 2 do not refuse, on a page with room for the longest line, passes, or prints a line or more and leaves one or more.
+abbrev pub ListsForward : Type 0
+ListsForward =
+    (c : Config) (image : List ℕ) (first : ℕ) (page : List ℕ) (place : ℕ) → let r = listOf c image first page place in
+    Holds (lawful c) → length image ≡ c .imsize → place + (textLimit + lineFrame) ≤ length page → (r .number ≡ 0 → ⊥) →
+    (first < r .next) × (r .next < length image)
+
 -- Whatever a listing answers, the page's bytes before the place and after the last whole line are as they were.
 abbrev pub ListsKeep : Type 0
 ListsKeep =
@@ -55,5 +72,7 @@ pub record Lists (c : Config) (image : List ℕ) (first : ℕ) (page : List ℕ)
   pub answer : listedOf r after ≡ listOf c image first page place
   pub whole : ListsWhole
   pub parts : ListsInParts
+  pub on : ListsOn
+  pub forward : ListsForward
   pub keeps : ListsKeep
   pub texts : ListsTexts
