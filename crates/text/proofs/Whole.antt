@@ -258,7 +258,7 @@ lists-in-parts c image first page place new wide from z y =
 
 -- a line is short, and where it has room it is printed
 
-decimal-short : (n : ℕ) → length (decimal n) ≤ 2
+pub decimal-short : (n : ℕ) → length (decimal n) ≤ 2
 unfolding decimal
 decimal-short n = either (λ (t : List ℕ). length t ≤ 2) (ltb n 10) ((n + 48) ∷ []) ((n / 10 + 48) ∷ (n % 10 + 48) ∷ []) (λ t. omega arith) (λ t. omega arith)
 
@@ -302,7 +302,8 @@ lists-forward c image first page place l e h z =
 
 abbrev Keeps : List ℕ → ℕ → Listing → Type 0
 Keeps page place r =
-    (take place (r .page) ≡ take place page) × (drop (r .place) (r .page) ≡ drop (r .place) page) × (length (r .page) ≡ length page)
+    (take place (r .page) ≡ take place page) × (drop (r .place) (r .page) ≡ drop (r .place) page) × (length (r .page) ≡ length page) ×
+    (place ≤ length page → r .place ≤ length page)
 
 pub lists-keep : ListsKeep
 lists-keep c image first page place = go (eqb (listNumber c (length image) (length page) place) 0) refl
@@ -312,8 +313,8 @@ lists-keep c image first page place = go (eqb (listNumber c (length image) (leng
         let d = list-did c image first page place (eqb-true (listNumber c (length image) (length page) place) 0 e) in
         let t = linesFrom c image first (d .lines) in
         rw (d .place-is, d .page-is)
-        (before-stays page place t (d .fits), beyond-stays page place t (d .fits), length-written page place t)
-    go false e = rw (refused-is c image first page place (eqb-false (listNumber c (length image) (length page) place) 0 e)) (refl, refl, refl)
+        (before-stays page place t (d .fits), beyond-stays page place t (d .fits), length-written page place t, λ _. d .fits)
+    go false e = rw (refused-is c image first page place (eqb-false (listNumber c (length image) (length page) place) 0 e)) (refl, refl, refl, λ h. h)
 
 -- the text of a word that can be read is short, and so stands in the listing
 

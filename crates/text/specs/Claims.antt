@@ -57,11 +57,12 @@ ListsForward =
     Holds (lawful c) → length image ≡ c .imsize → place + (textLimit + lineFrame) ≤ length page → (r .number ≡ 0 → ⊥) →
     (first < r .next) × (r .next < length image)
 
--- Whatever a listing answers, the page's bytes before the place and after the last whole line are as they were.
+-- Whatever a listing answers, the page's bytes before the place and after the last whole line are as they were; a place within the page stays within it.
 abbrev pub ListsKeep : Type 0
 ListsKeep =
     (c : Config) (image : List ℕ) (first : ℕ) (page : List ℕ) (place : ℕ) → let r = listOf c image first page place in
-    (take place (r .page) ≡ take place page) × (drop (r .place) (r .page) ≡ drop (r .place) page) × (length (r .page) ≡ length page)
+    (take place (r .page) ≡ take place page) × (drop (r .place) (r .page) ≡ drop (r .place) page) × (length (r .page) ≡ length page) ×
+    (place ≤ length page → r .place ≤ length page)
 
 -- For a word that can be read, what stands in a listing is its text: of these syntax's `ListedBack` speaks.
 abbrev pub ListsTexts : Type 0
