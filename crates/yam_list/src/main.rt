@@ -1,65 +1,176 @@
 // Prints the listing of an image file: the file stands on standard input, the listing goes to standard output. A file that is refused gives the line
-// "refused" with document 01's number; so does one past 34,304 bytes (67 blocks, the file of 8,192 words), with 2.
-ghost use Prim.Native.Nat.{_≤_};
+// "refused" with document 01's number; so does one past 34,304 bytes (67 blocks, the file of 8,192 words), with 2. specs/Printing.antt says what is printed.
+// What cannot be read or written is said on standard error.
+ghost use mathlib.Core.Path.{_≡_};
+ghost use Prim.Native.Nat.{_+_, _<_, _≤_};
+ghost use lib.Dec.{leb};
+ghost use lib.ListN.{length, take};
+ghost use Rattle.laws.specs.Choice.{pick};
+ghost use Rattle.text.specs.Claims.{Lists, linesToEnd};
+ghost use Rattle.text.specs.Pages.{Wrote};
+ghost use Rattle.text.specs.Texts.{decimal};
+ghost use Rattle.yam_list.specs.Printing.{fileLimit, refusalLine};
+ghost use Rattle.yam_list.specs.Claims.{Opens, Prints, Ready, toCome};
+use image::Loaded;
 use text::Listed;
 use words::Config;
 
-fn refused(number: u32) {
-    io::write_all(1, b"refused ");
-    io::print_decimal(1, number as u64);
-    io::write_all(1, b"\n");
+const WORDS: usize = 8192;
+
+const FILE_BYTES: usize = 34304;
+
+const PAGE_BYTES: usize = 65536;
+
+// The bytes of the longest line of a refusal.
+const REFUSAL_BYTES: usize = 11;
+
+// How many bytes of a page were filled, the address of the next line, and whether more is to come.
+struct Printed {
+    bytes: usize,
+    next: usize,
+    more: bool,
 }
 
-// n, or `most` where n is above it.
-fn within(n: usize, most: usize) -> usize
-    ensures { λ r. ⌜ r ≤ most ⌝ }
+// The number of a file of so many bytes, where loading it answers `number`.
+fn file_number(bytes: usize, number: u32) -> u32
+    ensures { λ r. ⌜ r ≡ pick (leb bytes fileLimit) number 2 ⌝ }
 {
-    if n < most { n } else { most }
+    if FILE_BYTES < bytes {
+        return 2;
+    }
+    number
 }
 
-// Lists as many of the image's lines from address `first` on as the page holds, and writes them; answers what `text::list` does.
-fn list_page(c: Config, image: &[u32], first: usize, page: &mut [u8]) -> Listed {
-    let size = within(c.imsize as usize, image.len());
-    let r = text::list(c, &image[..size], first, page, 0);
-    let end = within(r.place, page.len());
-    io::write_all(1, &page[..end]);
-    r
+// Loads the file into the image.
+fn load_file(file: &[u8], image: &mut [u32; WORDS]) -> Loaded
+    ensures { λ r. ⌜ Opens (now (file .entry)) (now (image .entry)) r (now (image .exit)) ⌝ }
+{
+    let l = image::load(file, image);
+    let config = l.config;
+    Loaded {
+        number: file_number(file.len(), l.number),
+        config,
+    }
 }
 
-// Lists the whole image, page after page: 18 means that there are more lines than the page held.
-fn list_all(c: Config, image: &[u32]) {
-    let mut page = [0u8; 65536];
+// Stores the bytes from `at` on.
+fn put_bytes(page: &mut [u8], at: usize, bytes: &[u8]) -> usize
+    requires { ⌜ at + length (now bytes) ≤ length (now page) ⌝ }
+    ensures { λ r. ⌜ Wrote (now (page .entry)) at (now (bytes .entry)) r (now (page .exit)) ⌝ }
+{
+    let mut i = 0;
+    while i < bytes.len() {
+        page[at + i] = bytes[i];
+        i += 1;
+    }
+    at + i
+}
+
+fn put_decimal(page: &mut [u8], at: usize, n: u32) -> usize
+    requires { ⌜ (n < 100) × (at + 2 ≤ length (now page)) ⌝ }
+    ensures { λ r. ⌜ Wrote (now (page .entry)) at (decimal n) r (now (page .exit)) ⌝ }
+{
+    if n < 10 {
+        page[at] = (n + 48) as u8;
+        return at + 1;
+    }
+    page[at] = (n / 10 + 48) as u8;
+    page[at + 1] = (n % 10 + 48) as u8;
+    at + 2
+}
+
+fn put_refusal(page: &mut [u8], n: u32) -> usize
+    requires { ⌜ (n < 100) × (11 ≤ length (now page)) ⌝ }
+    ensures { λ r. ⌜ Wrote (now (page .entry)) 0 (refusalLine n) r (now (page .exit)) ⌝ }
+{
+    let i = put_bytes(page, 0, b"refused ");
+    let j = put_decimal(page, i, n);
+    put_bytes(page, j, b"\n")
+}
+
+// Prints the line of a refusal on a page.
+fn print_refusal(n: u32, next: usize, page: &mut [u8]) -> Printed
+    requires { ⌜ n < 100 ⌝ }
+    ensures { λ r. ⌜ Prints (λ _. refusalLine n) 0 next (now (page .entry)) r (now (page .exit)) ⌝ }
+{
+    if page.len() < REFUSAL_BYTES {
+        return Printed {
+            bytes: 0,
+            next,
+            more: true,
+        };
+    }
+    let bytes = put_refusal(page, n);
+    Printed {
+        bytes,
+        next,
+        more: false,
+    }
+}
+
+// Lists as many of the image's lines from address `first` on as a page holds.
+fn list_page(c: Config, image: &[u32], first: usize, page: &mut [u8]) -> Listed
+    ensures { λ r. ⌜ Lists c (now (image .entry)) first (now (page .entry)) 0 r (now (page .exit)) ⌝ }
+{
+    let p = text::pages::list_on(c, image, text::pages::new(page, 0, first));
+    text::pages::answer(p)
+}
+
+// Prints lines of a listing on a page.
+fn print_lines(l: Loaded, image: &[u32], next: usize, page: &mut [u8]) -> Printed
+    requires { ⌜ Ready l (now image) × (l .number ≡ 0) ⌝ }
+    ensures { λ r. ⌜ Prints (linesToEnd (l .config) (take (l .config .imsize) (now (image .entry)))) (l .config .imsize) next (now (page .entry)) r (now (page .exit)) ⌝ }
+{
+    let c = l.config;
+    let size = c.imsize as usize;
+    let r = list_page(c, &image[..size], next, page);
+    Printed {
+        bytes: r.place,
+        next: r.next,
+        more: r.number != 0,
+    }
+}
+
+// Prints on a page what is to come, from the line of address `next` on.
+fn print_page(l: Loaded, image: &[u32], next: usize, page: &mut [u8]) -> Printed
+    requires { ⌜ Ready l (now image) ⌝ }
+    ensures { λ r. ⌜ Prints (toCome l (now (image .entry))) (l .config .imsize) next (now (page .entry)) r (now (page .exit)) ⌝ }
+{
+    let number = l.number;
+    if number != 0 {
+        return print_refusal(number, next, page);
+    }
+    print_lines(l, image, next, page)
+}
+
+// Writes page after page, until no more is to come.
+fn print_all(l: Loaded, image: &[u32])
+    requires { ⌜ Ready l (now image) ⌝ }
+{
+    let mut page = [0u8; PAGE_BYTES];
     let mut next: usize = 0;
-    let mut left: u32 = 8192;
-    while 0 < left {
-        let r = list_page(c, image, next, &mut page);
-        let number = r.number;
-        if number == 0 {
-            return;
-        }
-        if number != 18 {
-            refused(number);
+    let mut more = true;
+    while more {
+        let r = print_page(l, image, next, &mut page);
+        let bytes = r.bytes;
+        if !io::write_all(1, &page[..bytes]) {
+            os::fail(b"standard output");
             return;
         }
         next = r.next;
-        left -= 1;
+        more = r.more;
     }
 }
 
 fn main() {
-    let mut input = [0u8; 34305];
-    let n = io::read_full(0, &mut input);
-    if 34304 < n {
-        refused(2);
+    let mut file = [0u8; FILE_BYTES + 1];
+    let input = files::read_all(0, &mut file);
+    if input.failed {
+        os::fail(b"standard input");
         return;
     }
-    let mut image = [0u32; 8192];
-    let loaded = image::load(&input[..n], &mut image);
-    let number = loaded.number;
-    if number != 0 {
-        refused(number);
-        return;
-    }
-    let c = loaded.config;
-    list_all(c, &image);
+    let bytes = input.bytes;
+    let mut image = [0u32; WORDS];
+    let l = load_file(&file[..bytes], &mut image);
+    print_all(l, &image);
 }

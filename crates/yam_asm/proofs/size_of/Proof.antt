@@ -1,6 +1,6 @@
 -- `yam_asm::size_of` meets its contract. Assumes nothing.
 use borrow.Author.Needs.{needs}
-use Rattle.yam_asm.proofs.Counts.{counts}
+use Rattle.files.proofs.Counts.{counts}
 use Rattle.yam_asm.proofs.size_of.Statement.{statement}
 use Rattle.yam_asm.proofs.size_of.Tie as tie
 

@@ -1,11 +1,11 @@
--- `yam_asm::read_all` meets its contract and ends: each turn but the last reads a byte or more. Assumes nothing.
+-- `files::read_all` meets its contract and ends: each turn but the last reads a byte or more. Assumes nothing.
 use Prim.Native.Nat.{_-_, _≤_}
 use mathlib.Core.Path.{_≡_}
 use lib.ListN.{length}
 use borrow.Author.Needs.{needs}
-use Rattle.yam_asm.proofs.Counts.{counts}
-use Rattle.yam_asm.proofs.read_all.Statement.{statement}
-use Rattle.yam_asm.proofs.read_all.Tie as tie
+use Rattle.files.proofs.Counts.{counts}
+use Rattle.files.proofs.read_all.Statement.{statement}
+use Rattle.files.proofs.read_all.Tie as tie
 
 abbrev Inv-loop : tie.InvT-loop
 Inv-loop fd to₀ done₀ to done = (length to ≡ length to₀) × (done ≤ length to₀)
