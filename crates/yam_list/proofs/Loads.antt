@@ -20,7 +20,8 @@ use Rattle.image.proofs.Lists.{length-words}
 use Rattle.image.proofs.loading.Laws.{load-is, rest-passed}
 use Rattle.text.specs.Claims.{linesToEnd}
 use Rattle.yam_list.specs.Printing.{wordLimit, fileLimit, fileNumber, refusalLine, printedOf}
-use Rattle.yam_list.specs.Claims.{toCome, Ready, Opens}
+use Rattle.yam_list.specs.Claims.{toCome, Opens}
+use Rattle.yam_list.proofs.Pages.{run-joined}
 
 -- every number is below 100
 
@@ -162,4 +163,5 @@ module _ (f image after : List ℕ) (n : ℕ) (c : Config) (l : Loaded) (size : 
     size = ap (λ (r : Load). length (r .image)) loads ∙ load-length f image ∙ size;
     ready = record { short = l-small; allowed = is-allowed; held = is-held };
     prints = prints-file;
+    pages = λ ts h. run-joined (toCome l after) (l .config .imsize) 0 ts h ∙ prints-file;
   }

@@ -22,7 +22,7 @@ use Rattle.text.proofs.Whole.{between, beyond-stays}
 use Rattle.files.proofs.Counts.{counts}
 use Rattle.yam_list.specs.declared.Printed.{Printed}
 use Rattle.yam_list.specs.Printing.{refusalLine}
-use Rattle.yam_list.specs.Claims.{toCome, Ready, Prints}
+use Rattle.yam_list.specs.Claims.{toCome, Prints, Turn, Turns, joinedPages}
 use Rattle.yam_list.proofs.Lines.{length-written, refusal-short}
 
 abbrev printed : ℕ → ℕ → Bool → Printed
@@ -107,6 +107,14 @@ module _ (l : Loaded) (image : List ℕ) (next : ℕ) (page : List ℕ) (r : Pri
       Prints (toCome l image) (l .config .imsize) next page r after
   unfolding toCome pick
   lines-to-come z p = prints-as _ (toCome l image) (l .config .imsize) (l .config .imsize) next page r after (λ k. rw (eq-eqb (l .number) 0 z)) (omega arith) p
+
+-- the pages of a run, joined
+pub run-joined : (come : ℕ → List ℕ) (end next : ℕ) (ts : List Turn) → Turns come end next ts → joinedPages ts ≡ come next
+unfolding pick
+run-joined come end next [] h = absurd h
+run-joined come end next (t ∷ []) h = rw (h .1) at (h .0 .joined)
+run-joined come end next (t ∷ u ∷ ts) h =
+    ap (λ (s : List ℕ). take (t .answer .bytes) (t .after) ++ s) (run-joined come end (t .answer .next) (u ∷ ts) (h .2)) ∙ (rw (h .1) at (h .0 .joined))
 
 -- what falls from page to page: how many lines are left, and the turn itself
 abbrev pub left : ℕ → ℕ → Bool → ℕ

@@ -1,8 +1,8 @@
 -- What the program's functions promise: together, that the pages that they fill, joined, are `printedOf` of the file.
 use Prim.Native.Nat.{ℕ, _+_, _≤_, _<_}
 use mathlib.Core.Path.{_≡_}
-use mathlib.Core.Bool.{true}
-use mathlib.Core.List.{List, [], _++_}
+use mathlib.Core.Bool.{true, false}
+use mathlib.Core.List.{List, [], _∷_, _++_}
 use lib.Dec.{eqb}
 use lib.ListN.{length, take, drop}
 use Rattle.laws.specs.Choice.{pick}
@@ -28,14 +28,6 @@ pub record Ready (l : Loaded) (image : List ℕ) : Type 0 where
   pub allowed : l .number ≡ 0 → Holds (lawful (l .config))
   pub held : l .number ≡ 0 → l .config .imsize ≤ length image
 
--- what `load_file` promises of its answer l and of the image after it
-pub record Opens (f image : List ℕ) (l : Loaded) (after : List ℕ) : Type 0 where
-  pub number : l .number ≡ fileNumber f
-  pub loaded : after ≡ loadOf f image .image
-  pub size : length after ≡ wordLimit
-  pub ready : Ready l after
-  pub prints : toCome l after 0 ≡ printedOf f
-
 -- What a page promises, where `come` is what is to come from a line on and `end` is past the last line: the page's bytes, and where there is more what is to
 -- come from the next line on, are what was to come. No other byte changes. With room for the longest line, more lines are left only after one was printed.
 pub record Prints (come : ℕ → List ℕ) (end next : ℕ) (page : List ℕ) (r : Printed) (after : List ℕ) : Type 0 where
@@ -43,3 +35,29 @@ pub record Prints (come : ℕ → List ℕ) (end next : ℕ) (page : List ℕ) (
   pub fits : Counts (r .bytes) after
   pub keeps : drop (r .bytes) after ≡ drop (r .bytes) page
   pub forward : textLimit + lineFrame ≤ length page → r .more ≡ true → (next < r .next) × (r .next < end)
+
+-- a call of `print_page`: the page before it, its answer, and the page after it
+pub record Turn : Type 0 where
+  pub page : List ℕ
+  pub answer : Printed
+  pub after : List ℕ
+
+-- a run of calls: each from the line that the one before it answered, until no more is to come
+abbrev pub Turns : (ℕ → List ℕ) → ℕ → ℕ → List Turn → Type 0
+Turns come end next [] = ⊥
+Turns come end next (t ∷ []) = Prints come end next (t .page) (t .answer) (t .after) × (t .answer .more ≡ false)
+Turns come end next (t ∷ u ∷ ts) =
+    Prints come end next (t .page) (t .answer) (t .after) × (t .answer .more ≡ true) × Turns come end (t .answer .next) (u ∷ ts)
+
+abbrev pub joinedPages : List Turn → List ℕ
+joinedPages [] = []
+joinedPages (t ∷ ts) = take (t .answer .bytes) (t .after) ++ joinedPages ts
+
+-- What `load_file` promises of its answer l and of the image after it: what is to come is what the file's bytes print, and so are the pages of a run, joined.
+pub record Opens (f image : List ℕ) (l : Loaded) (after : List ℕ) : Type 0 where
+  pub number : l .number ≡ fileNumber f
+  pub loaded : after ≡ loadOf f image .image
+  pub size : length after ≡ wordLimit
+  pub ready : Ready l after
+  pub prints : toCome l after 0 ≡ printedOf f
+  pub pages : (ts : List Turn) → Turns (toCome l after) (l .config .imsize) 0 ts → joinedPages ts ≡ printedOf f
