@@ -3,7 +3,7 @@ use Prim.Native.Nat.{ℕ}
 use mathlib.Core.Path.{_≡_}
 use mathlib.Core.List.{List}
 use Rattle.words.specs.declared.Config.{Config}
-use Rattle.syntax.specs.Claims.{PrintThenRead, ReadThenPrint, ListedBack, AssembledBack, LabelsMean, LabelsResolved}
+use Rattle.syntax.specs.Claims.{PrintThenRead, ReadThenPrint, UnreadNone, ListedBack, AssembledBack, LabelsMean, LabelsResolved}
 use Rattle.assembler.specs.declared.Assembled.{Assembled}
 use Rattle.assembler.specs.Answers.{assembledOf, assembleCall}
 
@@ -12,6 +12,7 @@ pub record Assembles (c : Config) (text words : List ℕ) (r : Assembled) (after
   pub answer : assembledOf r after ≡ assembleCall c text words
   pub print-read : PrintThenRead
   pub read-print : ReadThenPrint
+  pub unread-none : UnreadNone
   pub listed-back : ListedBack
   pub assembled-back : AssembledBack
   pub labels-mean : LabelsMean

@@ -27,7 +27,7 @@ use Rattle.syntax.specs.Pieces.{print, widthIn}
 use Rattle.syntax.proofs.Pieces.{read-print, no-common, equal-is, equal-same}
 use Rattle.syntax.specs.Forms.{piecesOf, partOf, textOf, Form, form, formOf, numbersOf, flagsOf, forms}
 use Rattle.syntax.specs.Reading.{reading, isForm, Line, found, unread, firstIn, readLine}
-use Rattle.syntax.specs.Claims.{PrintThenRead, ReadThenPrint}
+use Rattle.syntax.specs.Claims.{PrintThenRead, ReadThenPrint, UnreadNone}
 use Rattle.syntax.proofs.Table.{patternOf, allApart, In, head-apart, tail-apart, forms-apart, forms-many, wide, all-in, forms-wide, in-forms}
 
 -- a line of a form is what the form prints of what it reads
@@ -184,9 +184,8 @@ readable-within c w i e =
 pub print-then-read : PrintThenRead
 print-then-read c w i e = reads-printed c i (readable-within c w i e)
 
--- 26 exactly where no instruction whose parts are within their digits has the line for its text
-pub unread-none : (c : Config) (l : List ℕ) (i : Instruction) → readLine l ≡ unread → Within i → textOf c i ≡ l → ⊥
-unread-none c l i e h t =
-    let f : readLine l ≡ found i = rw t at (reads-printed c i h) in
+pub unread-none : UnreadNone
+unread-none c l w i e h t =
+    let f : readLine l ≡ found i = rw t at (print-then-read c w i h) in
     let z : _≡_ {A = ℕ} 0 1 = cc in
     omega arith

@@ -1,4 +1,4 @@
--- Source text read into words: the answer, with its sourceRefusals in document 02's order (K1).
+-- Source text read into words: the answer, with its refusals in document 02's order (K1).
 use Prim.Native.Nat.{ℕ, suc}
 use mathlib.Core.Bool.{Bool}
 use mathlib.Core.List.{List, [], _∷_}

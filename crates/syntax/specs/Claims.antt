@@ -14,7 +14,7 @@ use Rattle.words.specs.Configs.{lawful}
 use Rattle.words.specs.Claims.{understood}
 use Rattle.words.specs.Words.{readOf}
 use Rattle.syntax.specs.Forms.{textOf}
-use Rattle.syntax.specs.Reading.{found, readLine}
+use Rattle.syntax.specs.Reading.{found, unread, readLine}
 use Rattle.syntax.specs.Lines.{newline, linesOf, labelled, bodyOf, counts}
 use Rattle.syntax.specs.Labels.{Label, gathered, Found, at, nowhere, addressOf, targetOf, withAddress, setTarget}
 use Rattle.syntax.specs.Assembly.{passed, assembleOf}
@@ -28,6 +28,10 @@ PrintThenRead = (c : Config) (w : ℕ) (i : Instruction) → readOf c w ≡ unde
 -- A line that is read is the text of what was read.
 abbrev pub ReadThenPrint : Type 0
 ReadThenPrint = (c : Config) (l : List ℕ) (i : Instruction) → readLine l ≡ found i → textOf c i ≡ l
+
+-- A line that is in no form (26) is the text of no word that can be read.
+abbrev pub UnreadNone : Type 0
+UnreadNone = (c : Config) (l : List ℕ) (w : ℕ) (i : Instruction) → readLine l ≡ unread → readOf c w ≡ understood i → textOf c i ≡ l → ⊥
 
 -- Whole texts
 

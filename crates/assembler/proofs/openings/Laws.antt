@@ -57,7 +57,7 @@ key-missing l n b e f g =
     go true = refl
     go false = refl
 
--- a key tells whether the line is labelled
+-- the key of a line that is labelled, and of one that is not
 
 label-of : (l : List ℕ) → T (labelled l) → T (isLabel (lettersOf l))
 unfolding labelled
@@ -77,13 +77,6 @@ labelled-key l e =
 pub unlabelled-key : (l : List ℕ) → labelled l ≡ false → openingKey l ≡ 0
 unfolding openingKey pick
 unlabelled-key l e = rw e
-
-pub key-labelled : (l : List ℕ) (k : ℕ) → k ≡ openingKey l → not (eqb k 0) ≡ labelled l
-key-labelled l k q = go (labelled l) refl
-  where
-    go : (b : Bool) → labelled l ≡ b → not (eqb k 0) ≡ labelled l
-    go true e = rw (q, e, ne-eqb (openingKey l) 0 (labelled-key l e .1))
-    go false e = rw (q, e, unlabelled-key l e)
 
 -- whether the line counts
 

@@ -17,7 +17,7 @@ use Rattle.words.specs.Configs.{lawful}
 use Rattle.syntax.specs.Lines.{linesOf}
 use Rattle.syntax.specs.Labels.{gathered, repeats}
 use Rattle.syntax.specs.Assembly.{Assembly, refused, wordsFrom, sourceRefusals, assembleOf}
-use Rattle.syntax.proofs.Reading.{print-then-read, read-then-print}
+use Rattle.syntax.proofs.Reading.{print-then-read, read-then-print, unread-none}
 use Rattle.syntax.proofs.Sources.{listed-back}
 use Rattle.syntax.proofs.Unlabelled.{assembled-back}
 use Rattle.syntax.proofs.Labels.{labels-mean}
@@ -35,6 +35,7 @@ assembles c text words r after e =
       answer = e;
       print-read = print-then-read;
       read-print = read-then-print;
+      unread-none = unread-none;
       listed-back = listed-back;
       assembled-back = assembled-back;
       labels-mean = labels-mean;
