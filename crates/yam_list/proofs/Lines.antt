@@ -13,7 +13,7 @@ use Rattle.syntax.specs.Quoted.{quoted}
 use Rattle.text.specs.Texts.{decimal}
 use Rattle.text.specs.Pages.{written, Wrote}
 use Rattle.text.proofs.Whole.{written-append, decimal-short}
-use Rattle.yam_list.specs.Printing.{refusalLine}
+use Rattle.yam_list.specs.Printing.{refusalBytes, refusalLine}
 
 -- one byte more, and the last
 pub byte-next : (l p bs : List ℕ) (at i : ℕ) → i < length bs → sets l (at + i) (drop i bs) ≡ sets p at bs →
@@ -47,6 +47,6 @@ pub refusal-written : (n : ℕ) {p q u w : List ℕ} {i j r : ℕ} → Wrote p 0
 unfolding refusalLine
 refusal-written n a b c = then a (then b c)
 
-pub refusal-short : (n : ℕ) → length (refusalLine n) ≤ 11
+pub refusal-short : (n : ℕ) → length (refusalLine n) ≤ refusalBytes
 unfolding refusalLine
 refusal-short n = omega (arith, length-append (decimal n) (quoted "\n"), decimal-short n)

@@ -4,10 +4,10 @@ use mathlib.Core.Path.{_≡_, refl, sym, ap, _∙_}
 use mathlib.Core.Bool.{Bool, true, false}
 use mathlib.Core.List.{List, [], _∷_, _++_}
 use native.Mathlib.Omega.{arith}
-use borrow.Author.Tests.{eqb-true, eqb-false, eq-eqb, le-leb, lt-leb}
+use borrow.Author.Tests.{eqb-true, eqb-false, eq-eqb, le-leb, lt-leb, leb-true, leb-false}
 use lib.Dec.{eqb, leb}
 use lib.ListN.{length, take, drop, length-append, length-drop}
-use lib.Seq.{take-at}
+use lib.Seq.{take-all, take-at, length-take-le}
 use Rattle.laws.specs.Choice.{pick, either}
 use Rattle.laws.specs.First.{first-failing, Every, numbered, obeyed}
 use Rattle.laws.specs.Test.{Test, test, Holds}
@@ -20,7 +20,7 @@ use Rattle.image.proofs.Lists.{length-words}
 use Rattle.image.proofs.loading.Laws.{load-is, rest-passed}
 use Rattle.text.specs.Claims.{linesToEnd}
 use Rattle.yam_list.specs.Printing.{wordLimit, fileLimit, fileNumber, refusalLine, printedOf}
-use Rattle.yam_list.specs.Claims.{toCome, Opens}
+use Rattle.yam_list.specs.Claims.{toCome, CutOff, Opens}
 use Rattle.yam_list.proofs.Pages.{run-joined}
 
 -- every number is below 100
@@ -107,6 +107,20 @@ pub not-too-long : (bytes n : ℕ) → bytes ≤ fileLimit → n ≡ pick (leb b
 unfolding pick
 not-too-long bytes n h = rw (le-leb bytes fileLimit h)
 
+long-printed : (f : List ℕ) → fileLimit < length f → printedOf f ≡ refusalLine 2
+unfolding printedOf fileNumber pick
+long-printed f h = rw (lt-leb (length f) fileLimit h)
+
+cut-off : CutOff
+cut-off f = go (leb (length f) fileLimit) refl
+  where
+    go : (b : Bool) → leb (length f) fileLimit ≡ b → printedOf (take (suc fileLimit) f) ≡ printedOf f
+    go true e = ap printedOf (take-all (suc fileLimit) f (omega (arith, leb-true (length f) fileLimit e)))
+    go false e =
+        let h = leb-false (length f) fileLimit e in
+        let n : length (take (suc fileLimit) f) ≡ suc fileLimit = length-take-le (suc fileLimit) f (omega arith) in
+        long-printed (take (suc fileLimit) f) (omega (arith, n)) ∙ sym (long-printed f h)
+
 -- what loading the file answers
 
 module _ (f image after : List ℕ) (n : ℕ) (c : Config) (l : Loaded) (size : length image ≡ wordLimit)
@@ -163,5 +177,6 @@ module _ (f image after : List ℕ) (n : ℕ) (c : Config) (l : Loaded) (size : 
     size = ap (λ (r : Load). length (r .image)) loads ∙ load-length f image ∙ size;
     ready = record { short = l-small; allowed = is-allowed; held = is-held };
     prints = prints-file;
+    cut-off = cut-off;
     pages = λ ts h. run-joined (toCome l after) (l .config .imsize) 0 ts h ∙ prints-file;
   }

@@ -21,7 +21,7 @@ use Rattle.text.specs.Claims.{linesToEnd, printedFrom, lineFrame, Lists}
 use Rattle.text.proofs.Whole.{between, beyond-stays}
 use Rattle.files.proofs.Counts.{counts}
 use Rattle.yam_list.specs.declared.Printed.{Printed}
-use Rattle.yam_list.specs.Printing.{refusalLine}
+use Rattle.yam_list.specs.Printing.{refusalBytes, refusalLine}
 use Rattle.yam_list.specs.Claims.{toCome, Prints, Turn, Turns, joinedPages}
 use Rattle.yam_list.proofs.Lines.{length-written, refusal-short}
 
@@ -33,11 +33,11 @@ false-not-true e = subst (λ (b : Bool). T (not b)) e tt
 
 -- a refusal's line
 
-pub refusal-waits : (n next : ℕ) (page : List ℕ) → length page < 11 → Prints (λ _. refusalLine n) 0 next page (printed 0 next true) page
+pub refusal-waits : (n next : ℕ) (page : List ℕ) → length page < refusalBytes → Prints (λ _. refusalLine n) 0 next page (printed 0 next true) page
 unfolding pick
 refusal-waits n next page h = record { joined = refl; fits = counts 0 page (omega arith); keeps = refl; forward = λ k _. absurd (omega arith) }
 
-pub refusal-printed : (n next r : ℕ) (page after : List ℕ) → 11 ≤ length page → Wrote page 0 (refusalLine n) r after →
+pub refusal-printed : (n next r : ℕ) (page after : List ℕ) → refusalBytes ≤ length page → Wrote page 0 (refusalLine n) r after →
     Prints (λ _. refusalLine n) 0 next page (printed r next false) after
 unfolding pick
 refusal-printed n next r page after h w =

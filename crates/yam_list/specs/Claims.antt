@@ -1,5 +1,5 @@
 -- What the program's functions promise: together, that the pages that they fill, joined, are `printedOf` of the file.
-use Prim.Native.Nat.{ℕ, _+_, _≤_, _<_}
+use Prim.Native.Nat.{ℕ, suc, _+_, _≤_, _<_}
 use mathlib.Core.Path.{_≡_}
 use mathlib.Core.Bool.{true, false}
 use mathlib.Core.List.{List, [], _∷_, _++_}
@@ -15,7 +15,7 @@ use Rattle.io.specs.Counts.{Counts}
 use Rattle.text.specs.Texts.{textLimit}
 use Rattle.text.specs.Claims.{linesToEnd, lineFrame}
 use Rattle.yam_list.specs.declared.Printed.{Printed}
-use Rattle.yam_list.specs.Printing.{wordLimit, fileNumber, refusalLine, printedOf}
+use Rattle.yam_list.specs.Printing.{wordLimit, fileLimit, fileNumber, refusalLine, printedOf}
 
 -- what is to come of a file that was loaded: from the line of an address on, or its refusal
 unfoldable pub toCome : Loaded → List ℕ → ℕ → List ℕ
@@ -53,6 +53,10 @@ abbrev pub joinedPages : List Turn → List ℕ
 joinedPages [] = []
 joinedPages (t ∷ ts) = take (t .answer .bytes) (t .after) ++ joinedPages ts
 
+-- What is printed for a file hangs on no byte but the first 34,305, which are as many as the program reads.
+abbrev pub CutOff : Type 0
+CutOff = (f : List ℕ) → printedOf (take (suc fileLimit) f) ≡ printedOf f
+
 -- What `load_file` promises of its answer l and of the image after it: what is to come is what the file's bytes print, and so are the pages of a run, joined.
 pub record Opens (f image : List ℕ) (l : Loaded) (after : List ℕ) : Type 0 where
   pub number : l .number ≡ fileNumber f
@@ -60,4 +64,5 @@ pub record Opens (f image : List ℕ) (l : Loaded) (after : List ℕ) : Type 0 w
   pub size : length after ≡ wordLimit
   pub ready : Ready l after
   pub prints : toCome l after 0 ≡ printedOf f
+  pub cut-off : CutOff
   pub pages : (ts : List Turn) → Turns (toCome l after) (l .config .imsize) 0 ts → joinedPages ts ≡ printedOf f

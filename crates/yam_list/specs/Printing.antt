@@ -25,6 +25,10 @@ fileNumber f = pick (leb (length f) fileLimit) (loadNumber f wordLimit) 2
 unfoldable pub refusalLine : ℕ → List ℕ
 refusalLine n = quoted "refused " ++ (decimal n ++ quoted "\n")
 
+-- the bytes of the longest such line
+abbrev pub refusalBytes : ℕ
+refusalBytes = 11
+
 -- the lines of the file's image, or the line of its refusal
 unfoldable pub printedOf : List ℕ → List ℕ
 printedOf f =

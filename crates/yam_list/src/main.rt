@@ -9,7 +9,7 @@ ghost use Rattle.laws.specs.Choice.{pick};
 ghost use Rattle.text.specs.Claims.{Lists, linesToEnd};
 ghost use Rattle.text.specs.Pages.{Wrote};
 ghost use Rattle.text.specs.Texts.{decimal};
-ghost use Rattle.yam_list.specs.Printing.{fileLimit, refusalLine};
+ghost use Rattle.yam_list.specs.Printing.{fileLimit, refusalBytes, refusalLine};
 ghost use Rattle.yam_list.specs.Claims.{Opens, Prints, Ready, toCome};
 use image::Loaded;
 use text::Listed;
@@ -80,7 +80,7 @@ fn put_decimal(page: &mut [u8], at: usize, n: u32) -> usize
 }
 
 fn put_refusal(page: &mut [u8], n: u32) -> usize
-    requires { ⌜ (n < 100) × (11 ≤ length (now page)) ⌝ }
+    requires { ⌜ (n < 100) × (refusalBytes ≤ length (now page)) ⌝ }
     ensures { λ r. ⌜ Wrote (now (page .entry)) 0 (refusalLine n) r (now (page .exit)) ⌝ }
 {
     let i = put_bytes(page, 0, b"refused ");
