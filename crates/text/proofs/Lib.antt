@@ -1,3 +1,4 @@
+pub mod Written
 pub mod Tidy
 pub mod Printed
 pub mod Whole

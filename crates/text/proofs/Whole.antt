@@ -9,7 +9,7 @@ use native.Mathlib.Omega.{arith}
 use borrow.Author.Tests.{le-ltb, le-leb, ltb-false, leb-true, eqb-true, eqb-false, ne-eqb}
 use lib.Dec.{eqb, leb, ltb}
 use lib.ListN.{length, getD, take, drop, length-append}
-use lib.Seq.{sets-eq, slice, slice-empty, length-take-le, take-append-le, take-at, drop-at}
+use lib.Seq.{slice-empty}
 use Rattle.laws.specs.Choice.{pick, either, is-true, is-false}
 use Rattle.laws.specs.First.{numbered, none-fails, obeyed}
 use Rattle.laws.specs.Test.{Holds, same, most, test, tests}
@@ -27,39 +27,8 @@ use Rattle.text.specs.Texts.{textLimit, decimal, refusedText, shownText,
 use Rattle.text.specs.Lines.{lineAt, linesFrom, Listing, listing, listed, listNumber, listOf}
 use Rattle.text.specs.Answers.{listedOf}
 use Rattle.text.specs.Claims.{linesToEnd, printedFrom, lineFrame, ListsWhole, ListsInParts, ListsOn, ListsForward, ListsKeep, ListsTexts, Lists}
-use Rattle.text.proofs.writers.Laws.{sets-append, length-written}
+use Rattle.text.proofs.Written.{before-stays, beyond-stays, between, written-append, written-none, length-written}
 use Rattle.text.proofs.listing.Laws.{length-line}
-
--- what is written, part by part
-
-module _ (p : List ℕ) (at : ℕ) (t : List ℕ) (h : at + length t ≤ length p) where
-  written-is : written p at t ≡ (take at p ++ t) ++ drop (at + length t) p
-  unfolding written
-  written-is = sets-eq t p at h
-
-  head-length : length (take at p ++ t) ≡ at + length t
-  head-length = rw (length-append, length-take-le at p (omega arith))
-
-  pub before-stays : take at (written p at t) ≡ take at p
-  before-stays =
-      rw written-is
-      (take-append-le at (take at p ++ t) (drop (at + length t) p) (omega (arith, head-length)) ∙ take-at (take at p) t at (length-take-le at p (omega arith)))
-
-  pub beyond-stays : drop (at + length t) (written p at t) ≡ drop (at + length t) p
-  beyond-stays = rw written-is (drop-at (take at p ++ t) (drop (at + length t) p) (at + length t) head-length)
-
-  pub between : slice at (at + length t) (written p at t) ≡ t
-  between =
-      rw (written-is, take-at (take at p ++ t) (drop (at + length t) p) (at + length t) head-length)
-      (drop-at (take at p) t at (length-take-le at p (omega arith)))
-
-pub written-append : (p : List ℕ) (at : ℕ) (s t : List ℕ) → written p at (s ++ t) ≡ written (written p at s) (at + length s) t
-unfolding written
-written-append p at s t = sets-append p at s t
-
-written-none : (p : List ℕ) (at : ℕ) → written p at [] ≡ p
-unfolding written
-written-none p at = refl
 
 -- lines, one part after another
 

@@ -1,18 +1,19 @@
 -- The line of a refusal, as it is written. Assumes nothing.
-use Prim.Native.Nat.{ℕ, suc, _+_, _/_, _%_, _<_, _≤_}
+use Prim.Native.Nat.{ℕ, _+_, _/_, _%_, _<_, _≤_}
 use mathlib.Core.Path.{_≡_, refl, sym, ap, _∙_}
-use mathlib.Core.List.{List, [], _∷_, _++_}
+use mathlib.Core.List.{List}
 use native.Mathlib.Nat.{add-suc}
 use native.Mathlib.Numerals.{add-one}
 use native.Mathlib.Omega.{arith}
 use borrow.Author.Tests.{lt-ltb, le-ltb}
 use lib.ListN.{length, getD, set, drop, length-append, drop-of-length-le}
-use lib.Seq.{sets, length-sets, drop-cons}
+use lib.Seq.{sets, drop-cons}
 use Rattle.laws.specs.Choice.{pick}
 use Rattle.syntax.specs.Quoted.{quoted}
 use Rattle.text.specs.Texts.{decimal}
 use Rattle.text.specs.Pages.{written, Wrote}
-use Rattle.text.proofs.Whole.{written-append, decimal-short}
+use Rattle.text.proofs.Written.{then}
+use Rattle.text.proofs.Whole.{decimal-short}
 use Rattle.yam_list.specs.Printing.{refusalBytes, refusalLine}
 
 -- one byte more, and the last
@@ -31,16 +32,6 @@ one-digit p at n h = rw (lt-ltb n 10 h) (record { next = refl; page = refl })
 pub two-digits : (p : List ℕ) (at n : ℕ) → 10 ≤ n → Wrote p at (decimal n) (at + 2) (set (set p at (n / 10 + 48)) (at + 1) (n % 10 + 48))
 unfolding decimal pick written
 two-digits p at n h = rw (le-ltb n 10 h) (record { next = refl; page = rw add-one })
-
-then : {p q u : List ℕ} {at m r : ℕ} {s t : List ℕ} → Wrote p at s m q → Wrote q m t r u → Wrote p at (s ++ t) r u
-then {p} {q} {u} {at} {m} {r} {s} {t} a b = record {
-  next = rw length-append (omega (arith, a .next, b .next));
-  page = b .page ∙ rw (written-append, a .page, a .next);
-}
-
-pub length-written : (p : List ℕ) (at : ℕ) (t : List ℕ) → length (written p at t) ≡ length p
-unfolding written
-length-written p at t = length-sets p at t
 
 pub refusal-written : (n : ℕ) {p q u w : List ℕ} {i j r : ℕ} → Wrote p 0 (quoted "refused ") i q → Wrote q i (decimal n) j u → Wrote u j (quoted "\n") r w →
     Wrote p 0 (refusalLine n) r w

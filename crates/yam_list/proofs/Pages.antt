@@ -1,10 +1,10 @@
 -- What a page holds and what is to come after it. Assumes nothing.
-use Prim.Native.Nat.{ℕ, zero, suc, _+_, _-_, _<_, _≤_}
+use Prim.Native.Nat.{ℕ, suc, _+_, _-_, _<_, _≤_}
 use mathlib.Core.Path.{_≡_, refl, sym, ap, subst, _∙_}
 use mathlib.Core.Bool.{Bool, true, false, not}
 use mathlib.Core.List.{List, [], _∷_, _++_, append-nil}
 use native.Mathlib.Omega.{arith}
-use borrow.Author.Tests.{eqb-true, eqb-false, eq-eqb, ne-eqb}
+use borrow.Author.Tests.{eqb-true, eq-eqb, ne-eqb}
 use lib.Dec.{T, eqb}
 use lib.ListN.{length, take, drop}
 use lib.Seq.{length-take-le}
@@ -18,12 +18,12 @@ use Rattle.text.specs.Texts.{textLimit}
 use Rattle.text.specs.Pages.{written, Wrote}
 use Rattle.text.specs.Lines.{Listing}
 use Rattle.text.specs.Claims.{linesToEnd, printedFrom, lineFrame, Lists}
-use Rattle.text.proofs.Whole.{between, beyond-stays}
+use Rattle.text.proofs.Written.{between, beyond-stays, length-written}
 use Rattle.files.proofs.Counts.{counts}
 use Rattle.yam_list.specs.declared.Printed.{Printed}
 use Rattle.yam_list.specs.Printing.{refusalBytes, refusalLine}
 use Rattle.yam_list.specs.Claims.{toCome, Prints, Turn, Turns, joinedPages}
-use Rattle.yam_list.proofs.Lines.{length-written, refusal-short}
+use Rattle.yam_list.proofs.Lines.{refusal-short}
 
 abbrev printed : ℕ → ℕ → Bool → Printed
 printed bytes next more = record { bytes = bytes; next = next; more = more }

@@ -7,7 +7,6 @@ use lib.Dec.{eqb}
 use lib.ListN.{length, take, drop}
 use Rattle.laws.specs.Choice.{pick}
 use Rattle.laws.specs.Test.{Holds}
-use Rattle.words.specs.declared.Config.{Config}
 use Rattle.words.specs.Configs.{lawful}
 use Rattle.image.specs.declared.Loaded.{Loaded}
 use Rattle.image.specs.Loading.{loadOf}

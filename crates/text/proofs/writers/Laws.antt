@@ -1,23 +1,18 @@
 -- Laws of a run of stores, of digits, and of writers: one after the other.
 -- Assumes nothing.
 use mathlib.Core.Path.{_≡_, refl, sym, ap, _∙_}
-use mathlib.Core.List.{List, [], _∷_, _++_}
+use mathlib.Core.List.{List, [], _∷_}
 use Prim.Native.Nat.{ℕ, zero, suc, _+_, _*_, _-_, _/_, _%_, _<_, _≤_}
-use native.Mathlib.Nat.{add-zero, add-suc, suc-add}
 use native.Mathlib.Omega.{arith}
 use lib.Dec.{ltb}
 use lib.ListN.{length, getD, set, length-append}
-use lib.Seq.{sets, length-sets, set-comm}
+use lib.Seq.{sets, set-comm}
 use Rattle.laws.specs.Choice.{either}
 use Rattle.laws.specs.Table.{value-at}
 use Rattle.syntax.specs.Digits.{spelled, digit, hex}
 use Rattle.text.specs.Packed.{pairTable}
 use Rattle.text.specs.Pages.{written, Wrote}
-
--- two runs, one after the other, are one run
-pub sets-append : (l : List ℕ) (i : ℕ) (vs ws : List ℕ) → sets l i (vs ++ ws) ≡ sets (sets l i vs) (i + length vs) ws
-sets-append l i [] ws = rw add-zero
-sets-append l i (v ∷ vs) ws = rw (add-suc, ← suc-add i (length vs)) (sets-append (set l i v) (suc i) vs ws)
+use Rattle.text.proofs.Written.{sets-append}
 
 -- a store past a run may come first
 sets-set : (l : List ℕ) (k v i : ℕ) (vs : List ℕ) → i + length vs ≤ k → sets (set l k v) i vs ≡ set (sets l i vs) k v
@@ -86,15 +81,3 @@ digit-last l p at i m w n v z e q =
     let k : at + (i - 1) ≡ at = omega arith in
     digits-done digit 16 (set l at v) p at (i - 1) (m / 16) w n (omega arith)
     (ap (λ z. sets (set l z v) at (hex (i - 1) (m / 16))) (sym k) ∙ digit-next digit 16 l p at i m w n v (omega arith) e q)
-
--- a write and then one from where it ended
-pub then : {p q u : List ℕ} {at m r : ℕ} {s t : List ℕ} → Wrote p at s m q → Wrote q m t r u → Wrote p at (s ++ t) r u
-unfolding written
-then {p} {q} {u} {at} {m} {r} {s} {t} a b = record {
-  next = rw length-append (omega (arith, a .next, b .next));
-  page = b .page ∙ rw (sets-append, a .page, a .next);
-}
-
-pub length-written : (p : List ℕ) (at : ℕ) (t : List ℕ) → length (written p at t) ≡ length p
-unfolding written
-length-written p at t = length-sets p at t

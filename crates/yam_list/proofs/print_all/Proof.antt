@@ -1,5 +1,5 @@
 -- `yam_list::print_all` meets its contract and ends: where more is to come, a page printed a line or more. Assumes nothing.
-use mathlib.Core.Path.{_≡_, refl, sym}
+use mathlib.Core.Path.{_≡_}
 use native.Mathlib.Omega.{arith}
 use lib.ListN.{length}
 use borrow.Author.Needs.{needs}

@@ -1,7 +1,8 @@
 -- `text::forms::put_piece_lent` meets its contract. Assumes nothing.
 use native.Mathlib.Omega.{arith}
 use Rattle.text.specs.Packed.{pieceText}
-use Rattle.text.proofs.writers.Laws.{then, length-spelled}
+use Rattle.text.proofs.Written.{then}
+use Rattle.text.proofs.writers.Laws.{length-spelled}
 use Rattle.text.proofs.forms.Laws.{length-piece}
 use borrow.Author.Needs.{needs}
 use Rattle.text.proofs.forms.put_piece_lent.Statement.{statement}
