@@ -7,11 +7,11 @@ use mathlib.Core.Logic.{_⊎_, inl, inr}
 use mathlib.Core.List.{List, [], _∷_}
 use native.Mathlib.Nat.{le-of-suc-le-suc, not-suc-le-zero}
 use native.Mathlib.Omega.{arith}
-use lib.Dec.{T, eqb, leb, leb→le, eqb→eq, T-not}
-use lib.ListN.{length, getD, take, drop, List·getD-eq-default}
+use lib.Dec.{T, eqb, leb, leb→le, eqb→eq}
+use lib.ListN.{length, getD, take, drop}
 use lib.Seq.{slice}
 use Rattle.laws.specs.Choice.{pick, pick-yes, true-is}
-use Rattle.laws.specs.Test.{and-left, and-right, or-cases}
+use Rattle.laws.specs.Test.{and-right, or-cases}
 use Rattle.laws.specs.Table.{every, at-every}
 use Rattle.words.specs.declared.Instruction.{Instruction}
 use Rattle.words.specs.Rows.{rows, rowAt}
@@ -20,15 +20,15 @@ use Rattle.syntax.specs.Pieces.{Class, byte, isHex}
 use Rattle.syntax.specs.Pieces.Class.{digit as any}
 use Rattle.syntax.specs.Styles.{styles, styleAt}
 use Rattle.syntax.specs.Forms.{numberText, flagText, piecesOf, numbersOf, flagsOf, formsOf, forms}
-use Rattle.syntax.specs.Reading.{isForm, readLine, found, unread}
+use Rattle.syntax.specs.Reading.{readLine, found, unread}
 use Rattle.syntax.proofs.Pieces.{Fitting}
 use Rattle.syntax.proofs.Table.{patternOf}
 use Rattle.syntax.proofs.Reading.{formAt, claims, none-claims}
 use Rattle.syntax.proofs.Places.{form-fits}
 use Rattle.assembler.specs.Bytes.{byteBefore}
 use Rattle.assembler.specs.Heads.{markOf, keyOf, headTable, linkTable}
-use Rattle.assembler.specs.Packed.{codes, formTable, Padded, isFormIn, Shown, readIn, Lent, Finds}
-use Rattle.assembler.proofs.Packed.{Line-at, line-at, line-part, early, sound-at, lengthOf, fits-length, table-length, parts-shown, padded, read-in, in-form, form-in}
+use Rattle.assembler.specs.Packed.{codes, Padded, isFormIn, Shown, readIn, Lent, Finds}
+use Rattle.assembler.proofs.Packed.{Line-at, line-at, line-part, early, sound-at, fits-length, table-length, parts-shown, padded, read-in, in-form, form-in}
 
 -- the key of a line is that of its form's pattern
 

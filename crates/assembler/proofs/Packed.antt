@@ -4,29 +4,28 @@ use Prim.Native.Nat.{ℕ, zero, suc, _+_, _-_, _*_, _<_, _≤_}
 use mathlib.Core.Bool.{Bool, true, false, not, _&&_, _||_}
 use mathlib.Core.Path.{_≡_, refl, ap, sym, _∙_}
 use mathlib.Core.Logic.{_⊎_, inl, inr}
-use mathlib.Core.List.{List, [], _∷_, _++_}
+use mathlib.Core.List.{List, [], _∷_}
 use native.Mathlib.Nat.{le-of-suc-le-suc, not-suc-le-zero}
 use native.Mathlib.Omega.{arith}
-use borrow.Author.Tests.{eqb-true, eqb-false, ne-eqb}
+use borrow.Author.Tests.{eqb-true, eqb-false}
 use lib.Dec.{T, eqb, leb, leb→le, eqb→eq, eqb-refl, T-not}
 use lib.ListN.{length, getD, take, drop, length-append, List·getD-append, List·getD-eq-default}
 use lib.Seq.{slice, length-slice, getD-append-add, getD-drop, getD-take}
-use Rattle.laws.specs.Choice.{pick, is-true, is-false, true-is}
+use Rattle.laws.specs.Choice.{pick}
 use Rattle.laws.specs.Test.{Test, most, _and_, test, Holds, holds, and-left, and-right, and-both, or-cases, or-left, or-right}
 use Rattle.laws.specs.Table.{every, at-every}
 use Rattle.laws.specs.Lists.{column}
-use Rattle.words.specs.declared.Instruction.{Instruction}
 use Rattle.words.specs.Frames.{DESTINATION, SOURCE, VALUE}
 use Rattle.words.specs.Rows.{rows, rowAt}
 use Rattle.syntax.specs.Digits.{spelled, digit}
-use Rattle.syntax.specs.Pieces.{Piece, numberIn, widthIn, placeIn, Class, byte, pattern, isHex, once}
+use Rattle.syntax.specs.Pieces.{numberIn, widthIn, placeIn, Class, byte, pattern, isHex, once}
 use Rattle.syntax.specs.Pieces.Class.{digit as any}
 use Rattle.syntax.specs.Styles.{styles, styleAt}
 use Rattle.syntax.specs.Forms.{numberText, flagText, piecesOf, Form, form, numbersOf, flagsOf, formsOf, forms}
-use Rattle.syntax.specs.Reading.{reading, isForm, readLine, found, unread}
-use Rattle.syntax.proofs.Pieces.{At, Fitting}
+use Rattle.syntax.specs.Reading.{reading, isForm}
+use Rattle.syntax.proofs.Pieces.{Fitting}
 use Rattle.syntax.proofs.Table.{patternOf, forms-many}
-use Rattle.syntax.proofs.Reading.{formAt, claims, none-claims}
+use Rattle.syntax.proofs.Reading.{formAt}
 use Rattle.syntax.proofs.Places.{read-place, fits-form, form-fits}
 use Rattle.assembler.proofs.bytes.Laws.{part-line}
 use Rattle.assembler.specs.Packed.{codes, pad, entryOf, joined, formTable, admits, matching, Padded, isFormIn, Shown, partIn, readIn}

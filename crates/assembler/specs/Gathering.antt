@@ -1,9 +1,9 @@
 -- What the first pass over a text answers and leaves. Nothing here is to be believed: proofs/gathering/Laws.antt ties it to syntax's Labels and Assembly.
-use Prim.Native.Nat.{ℕ, suc, _<_, _≤_}
+use Prim.Native.Nat.{ℕ, suc, _≤_}
 use mathlib.Core.Path.{_≡_}
 use mathlib.Core.List.{List, [], _∷_}
 use lib.Dec.{eqb}
-use lib.ListN.{length, getD}
+use lib.ListN.{length}
 use Rattle.laws.specs.Choice.{pick}
 use Rattle.laws.specs.Test.{most, same, _and_}
 use Rattle.laws.specs.First.{first-failing}

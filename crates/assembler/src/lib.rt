@@ -23,7 +23,7 @@ pub struct Assembled {
 }
 
 // What reading a line gives.
-pub enum Parsed {
+enum Parsed {
     Found(Instruction),
     Unread,
 }

@@ -37,12 +37,12 @@ use Rattle.words.proofs.Checks.{alike, alike-is, isnt-it}
 use Rattle.words.proofs.Lookup.{read-row, quick, agrees}
 use Rattle.words.proofs.Clear.{mask-quick}
 use Rattle.words.proofs.Answers.{lawful-read}
-use Rattle.arith.specs.Width.{bits, one}
+use Rattle.arith.specs.Width.{one}
 use Rattle.arith.proofs.Fits.{bits-width, immediate-answer-fits}
 use Rattle.state.specs.Operands.{constant, conditionMet}
 use Rattle.state.specs.Step.{cyclesOf}
 use Rattle.cells.specs.Cell.{operandValue, valueOf, takenOf, packed, leaving, first-apart, cellFor, cellOf}
-use Rattle.cells.specs.Templates.{formSource, operandSource, valueSource, valueFrom, templateOf, part, costOf, filled}
+use Rattle.cells.specs.Templates.{formSource, operandSource, valueSource, valueFrom, templateOf, costOf, filled}
 use Rattle.cells.proofs.templates.Laws.{past-entries, template-past}
 
 -- Values

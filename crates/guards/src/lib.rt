@@ -4,5 +4,4 @@ mod memories;
 mod ranges;
 
 pub use memories::joined;
-pub use ranges::in_ranges;
 pub use ranges::refusal;

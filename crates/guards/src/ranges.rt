@@ -107,7 +107,7 @@ fn cells_fit(c: Config, m: Core, stack: &[u32], registers: &[u32], memory: &[u32
 }
 
 // Whether a record is in its ranges, and the cells of its memories fit the word width: where not, it is refused with 3.
-pub fn in_ranges(
+fn in_ranges(
     c: Config,
     m: Core,
     inputs: &[u32],

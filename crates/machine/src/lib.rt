@@ -17,20 +17,20 @@ pub use stepping::step;
 pub use stepping::step_lent;
 
 // What the word at PC does by its cell: its change or stop, and, where it is not stopped, its cycles.
-pub struct Decision {
+struct Decision {
     pub cycles: u64,
     pub change: Change,
 }
 
 // What one step gives beside the memories; a stop from 256 on says that it is made apart.
-pub struct Turn {
+struct Turn {
     pub stop: u32,
     pub cycles: u64,
     pub core: Core,
 }
 
 // What steps give beside the memories.
-pub struct Turns {
+struct Turns {
     pub stop: u32,
     pub steps: u64,
     pub cycles: u64,

@@ -14,7 +14,7 @@ use Rattle.laws.specs.Cells.{below-at, below-above, below-from}
 use Rattle.words.specs.declared.Config.{Config}
 use Rattle.words.specs.declared.Instruction.{Instruction}
 use Rattle.words.specs.Parts.{register as register-part, is, inRange}
-use Rattle.words.specs.Kinds.{Operand, from-register, literal, short-literal, counted, Condition}
+use Rattle.words.specs.Kinds.{Operand, Condition}
 use Rattle.words.specs.Kinds.{Kind, marksOf, unsupported, compute, compare, multiply, bytewise, load-index, index-store, index-load, move, load-constant, load-register, load-direct, store-register, store-direct, port-read, port-modify, port-write, jump, branch, jump-register, branch-register, call, call-register, ret, ret-constant, enter-bank, leave-bank, enter-special, leave-special}
 use Rattle.words.specs.Rows.{Row, rowAt}
 use Rattle.words.specs.Words.{fits}
@@ -27,13 +27,13 @@ use Rattle.state.specs.declared.Core.{Core}
 use Rattle.state.specs.declared.Write.{Write}
 use Rattle.state.specs.State.{Env, State, top, stackLimit}
 use Rattle.state.specs.Cores.{at, flagged, off, write, change, moved, toRegister, toMemory}
-use Rattle.state.specs.Operands.{View, viewOf, cell, register, dataAddress, constant, operand, conditionMet, specialRegister}
+use Rattle.state.specs.Operands.{View, viewOf, cell, register, dataAddress, constant, conditionMet, specialRegister}
 use Rattle.state.specs.Plans.{advanced, contextOf, registerTarget, D, S, X, M, result, comparePlan, computePlan, multiplyPlan, loadIndexPlan, indexCore, indexStorePlan, indexLoadPlan, movePlan, loadConstantPlan, loadRegisterPlan, loadDirectPlan, storeRegisterPlan, storeDirectPlan, portReadPlan, portWritePlan, portModifyPlan, jumpPlan, branched, branchPlan, jumpRegisterPlan, branchRegisterPlan, called, callPlan, callRegisterPlan, newest, returned, retPlan, retConstantPlan, enterBankPlan, leaveBankPlan, enterSpecialPlan, leaveSpecialPlan, planOf}
 use Rattle.state.specs.Stops.{stops9to15, partsAt, kindAt}
 use Rattle.state.specs.Step.{putOf, planAt}
 use Rattle.state.specs.Good.{Indices, InBank, Posted, Ranged, Good}
 use Rattle.state.proofs.Ranges.{Bounds, bounds, top-byte}
-use Rattle.state.proofs.Stops.{counts, tells, a-register, a-target, an-entry, an-address, a-count, with-banks, Told}
+use Rattle.state.proofs.Stops.{tells, a-register, a-target, an-entry, an-address, with-banks, Told}
 use Rattle.state.proofs.Cores.{kept-at, kept-banked, kept-indexed, kept-flagged, kept-multiplied, kept-deep, kept-masked, kept-posting, kept-taking, kept-logging}
 use Rattle.state.specs.Landing.{Inside}
 use Rattle.state.proofs.Step.{Small, Sound}
@@ -100,13 +100,6 @@ module _ (e : Env) (s : State) (g : Good e s) where
     fits-destination : Holds (inRange c (r .destination) (i .destination))
     unfolding fits
     fits-destination = t .fit .1 .1 .0
-
-    operand-word : (x : Operand) → Holds (counts x r) → X v i x < top c
-    unfolding operand
-    operand-word from-register h = register-word _
-    operand-word (literal f) h = constant-word _ _
-    operand-word short-literal h = some
-    operand-word counted h = omega (arith, a-count c (r .value) (i .value) h fits-value, top-byte c)
 
     -- cores
 
@@ -354,9 +347,9 @@ module _ (e : Env) (s : State) (g : Good e s) where
     by-kind : (k : Kind) → Holds (tells k r) → Obeyed (stops9to15 v i (factsFor k)) → Sound e s (planOf v i k)
     unfolding tells stops9to15 factsFor marksOf planOf jumpPlan branchPlan jumpRegisterPlan branchRegisterPlan callPlan callRegisterPlan retPlan retConstantPlan
     by-kind unsupported p q = moved-sound onward refl
-    by-kind (compute o x) p q = compute-sound o x (p .0)
+    by-kind (compute o x) p q = compute-sound o x p
     by-kind (compare o x) p q = compare-sound o x
-    by-kind (multiply x) p q = multiply-sound x (p .0)
+    by-kind (multiply x) p q = multiply-sound x p
     by-kind (bytewise o) p q = compute-sound _ _ p
     by-kind load-index p q =
         load-index-sound

@@ -1,5 +1,4 @@
--- A run by its steps: it is put together from shorter runs, it takes no more steps than its budget, and its cycles lie between 2 and 3 times its
--- steps.
+-- A run by its steps: it is put together from shorter runs, and its cycles lie between 2 and 3 times its steps.
 -- Assumes nothing.
 use Prim.Native.Nat.{ℕ, zero, suc, _+_, _≤_}
 use mathlib.Core.Path.{_≡_}
@@ -41,17 +40,6 @@ splits (suc m) n e s h =
     (λ f z. f (eq→eqb (o .number) 0 z))
     (splits m n e (o .state))
     h)
-
--- a run takes no more steps than its budget
-pub run-steps : (budget : ℕ) (e : Env) (s : State) → runOf budget e s .steps ≤ budget
-unfolding runOf
-run-steps zero e s = omega arith
-run-steps (suc k) e s =
-    let o = advanceOf e s in
-    let h = run-steps k e (o .state) in
-    either (λ (r : Run). r .steps ≤ suc k) (eqb (o .number) 0) (after s (o .cycles) (runOf k e (o .state))) (ended (o .number) s)
-    (λ t. omega arith)
-    (λ f. omega arith)
 
 -- a step that is not refused takes 2 or 3 cycles
 

@@ -9,9 +9,8 @@ use Rattle.laws.specs.Test.{Test, yes?, _and_, test, Holds, holds}
 use Rattle.laws.specs.First.{numbered, Obeyed, obeyed}
 use Rattle.laws.specs.Table.{every, at-every}
 use Rattle.words.specs.declared.Config.{Config}
-use Rattle.words.specs.Parts.{Part, Part-discrete, register, write-address, target, count, bank-address, is, inRange}
+use Rattle.words.specs.Parts.{Part, Part-discrete, register, write-address, target, bank-address, is, inRange}
 use Rattle.words.specs.Parts.{Option, Option-discrete, banks, needs, available}
-use Rattle.words.specs.Kinds.{Operand, from-register, literal, short-literal, counted}
 use Rattle.words.specs.Kinds.{Kind, unsupported, compute, compare, multiply, bytewise, load-index, index-store, index-load, move, load-constant, load-register, load-direct, store-register, store-direct, port-read, port-modify, port-write, jump, branch, jump-register, branch-register, call, call-register, ret, ret-constant, enter-bank, leave-bank, enter-special, leave-special}
 use Rattle.words.specs.Rows.{Row, rows, rowCount, rowAt}
 use Rattle.words.specs.Words.{fits, refusals567}
@@ -25,20 +24,14 @@ use Rattle.state.specs.Step.{number}
 abbrev assigns : Row → Test
 assigns r = yes? (is (r .destination) register)
 
-abbrev pub counts : Operand → Row → Test
-counts from-register r = yes? true
-counts (literal f) r = yes? true
-counts short-literal r = yes? true
-counts counted r = yes? (is (r .value) count)
-
 abbrev aims : Row → Test
 aims r = yes? (is (r .value) target)
 
 unfoldable pub tells : Kind → Row → Test
 tells unsupported r = yes? true
-tells (compute o x) r = assigns r and counts x r
-tells (compare o x) r = counts x r
-tells (multiply x) r = assigns r and counts x r
+tells (compute o x) r = assigns r
+tells (compare o x) r = yes? true
+tells (multiply x) r = assigns r
 tells (bytewise o) r = assigns r
 tells load-index r = yes? (is (r .destination) register) and yes? (is (r .source) register)
 tells index-store r = yes? true
@@ -51,7 +44,7 @@ tells store-register r = yes? true
 tells store-direct r = yes? (is (r .value) write-address)
 tells port-read r = assigns r
 tells port-modify r = assigns r
-tells (port-write x) r = counts x r
+tells (port-write x) r = yes? true
 tells jump r = aims r
 tells (branch k) r = aims r
 tells jump-register r = yes? true
@@ -91,10 +84,6 @@ module _ (c : Config) (p : Part) (v : ℕ) where
   pub an-address : T (is p write-address) → Holds (inRange c p v) → v < c .dmsize
   unfolding inRange
   an-address t h = rw (decided-yes (Part-discrete p write-address) t) at h
-
-  pub a-count : T (is p count) → Holds (inRange c p v) → v < 16
-  unfolding inRange
-  a-count t h = (rw (decided-yes (Part-discrete p count) t) at h) .0
 
 pub with-banks : (c : Config) (o : Option) → T (needs o banks) → Holds (available c o) → c .regsize < c .rmsize
 unfolding available

@@ -1,5 +1,5 @@
 -- The core after one small change: what a step is put together from. The methods of Core hand these back.
-use Prim.Native.Nat.{ℕ, _+_, _-_}
+use Prim.Native.Nat.{ℕ, _+_}
 use lib.Dec.{eqb}
 use Rattle.laws.specs.Choice.{pick, decided, swapped}
 use Rattle.state.specs.declared.Core.{Core}

@@ -1,16 +1,16 @@
 -- The laws of pieces: what is printed is read back, and two forms that are apart print no line in common.
 -- Assumes nothing.
-use Prim.Native.Nat.{ℕ, zero, suc, _+_, _-_, _*_, _/_, _%_, _^_, _<_, _≤_}
+use Prim.Native.Nat.{ℕ, zero, suc, _+_, _*_, _/_, _%_, _^_, _<_, _≤_}
 use mathlib.Core.Path.{_≡_, refl, sym, ap, subst, _∙_}
 use mathlib.Core.Logic.{_⊎_, inl, inr}
-use mathlib.Core.Bool.{Bool, true, false, not, _&&_, _||_}
+use mathlib.Core.Bool.{Bool, true, false, not, _&&_}
 use mathlib.Core.List.{List, [], _∷_, _++_, append-assoc}
 use native.Mathlib.Nat.{pow-suc, le-of-suc-le-suc, not-suc-le-zero}
 use native.Mathlib.Omega.{arith}
 use lib.Dec.{T, eqb, ltb, leb, eqb→eq, eqb-refl, T-not, leb→le, ltb→lt}
 use lib.ListN.{length, getD, take, drop, length-append, take-append-drop}
 use lib.Seq.{drop-append-seam, drop-at, getD-at, take-suc}
-use Rattle.laws.specs.Choice.{pick, pick-yes, pick-no, decided-yes, is-true, true-is}
+use Rattle.laws.specs.Choice.{pick, pick-yes, pick-no, decided-yes, true-is}
 use Rattle.laws.specs.Test.{imp, imp-use, and-left, and-right, and-both, or-cases, or-left, or-right}
 use Rattle.laws.specs.Table.{every, at-every}
 use Rattle.syntax.specs.Digits.{spelled, digit, hex}
@@ -236,15 +236,9 @@ pub equal-same : (l : List ℕ) → T (equal l l)
 equal-same [] = tt
 equal-same (x ∷ l) = and-both (eqb x x) (equal l l) (eqb-refl x) (equal-same l)
 
--- pieces one after another, and parts that agree where they are shown
+-- pieces one after another
 
 pub print-append : (e f : List Piece) (g : Column → ℕ) → print (e ++ f) g ≡ print e g ++ print f g
 print-append [] f g = refl
 print-append (says t ∷ e) f g = rw (print-append e f g) (sym (append-assoc t (print e g) (print f g)))
 print-append (shows w p ∷ e) f g = rw (print-append e f g) (sym (append-assoc (hex w (g p)) (print e g) (print f g)))
-
-pub print-same : (f : List Piece) (g h : Column → ℕ) → ((p : Column) → T (showing p f) → g p ≡ h p) → print f g ≡ print f h
-print-same [] g h e = refl
-print-same (says t ∷ f) g h e = ap (λ (l : List ℕ). t ++ l) (print-same f g h e)
-print-same (shows w q ∷ f) g h e =
-    rw (e q (or-left (is-column q q) (showing q f) (column-same q)), print-same f g h (λ p s. e p (or-right (is-column p q) (showing p f) s)))

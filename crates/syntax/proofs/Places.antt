@@ -9,7 +9,7 @@ use lib.ListN.{length, drop}
 use lib.Seq.{drop-drop}
 use Rattle.laws.specs.Choice.{pick}
 use Rattle.words.specs.Frames.{Column, FLAG, NUMBER, DESTINATION, SOURCE, VALUE}
-use Rattle.syntax.specs.Pieces.{Piece, says, shows, is-column, read, numberIn, widthIn, placeIn, pattern, showable, once}
+use Rattle.syntax.specs.Pieces.{Piece, says, shows, is-column, read, numberIn, widthIn, placeIn, showable, once}
 use Rattle.syntax.specs.Forms.{Form, piecesOf, partOf}
 use Rattle.syntax.specs.Reading.{reading, isForm}
 use Rattle.syntax.proofs.Pieces.{Fitting, print-fits, fits-prints, shown-some, equal-same}

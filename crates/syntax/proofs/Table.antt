@@ -1,22 +1,22 @@
 -- What is computed of the table of texts: no two forms claim one line, and each part is shown in digits wide enough for its limit.
 -- Assumes nothing.
-use Prim.Native.Nat.{ℕ, zero, suc, _^_, _+_, _<_, _≤_}
-use mathlib.Core.Bool.{Bool, true, false, _&&_, Bool·beq}
-use mathlib.Core.Path.{_≡_, refl, ap, sym, _∙_}
+use Prim.Native.Nat.{ℕ, zero, suc, _^_, _+_, _<_}
+use mathlib.Core.Bool.{Bool, true, _&&_, Bool·beq}
+use mathlib.Core.Path.{_≡_, refl}
 use mathlib.Core.Logic.{_⊎_, inl, inr}
 use mathlib.Core.List.{List, [], _∷_, _++_}
 use native.Mathlib.Nat.{add-zero, zero-add, add-suc, suc-add, le-of-suc-le-suc, not-suc-le-zero}
-use lib.Dec.{T, leb, eqb}
-use lib.ListN.{getD, length}
+use lib.Dec.{T, eqb}
+use lib.ListN.{length}
 use Rattle.laws.specs.Choice.{pick, is-false, decided-yes}
 use Rattle.laws.specs.Test.{Test, most, _and_, test, and-left, and-right}
 use Rattle.laws.specs.Lists.{column}
-use Rattle.words.specs.Parts.{Part, unused, is, Option, Option-discrete, never, needs}
+use Rattle.words.specs.Parts.{Part, unused, is, Option-discrete, never, needs}
 use Rattle.words.specs.Frames.{DESTINATION, SOURCE, VALUE}
 use Rattle.words.proofs.Keys.{most-of}
 use Rattle.words.specs.Rows.{Row, rows, rowAt, rowCount}
 use Rattle.syntax.specs.Digits.{spelled, digit}
-use Rattle.syntax.specs.Pieces.{Piece, Class, pattern, apart, widthIn, once}
+use Rattle.syntax.specs.Pieces.{Class, pattern, apart, widthIn, once}
 use Rattle.syntax.specs.Operands.{Style}
 use Rattle.syntax.specs.Styles.{styles, styleAt}
 use Rattle.syntax.specs.Forms.{numberText, flagText, piecesOf, Form, form, numbered, flagged, numbersOf, flagsOf, formsOf, formsFrom, forms}

@@ -1,7 +1,7 @@
 -- From what the code computes to the answers of specs/Words.antt: one law for each function above the leaves.
 -- Assumes nothing.
 use Prim.Native.Nat.{ℕ, _/_, _%_, _<_, _≤_}
-use mathlib.Core.Path.{_≡_, refl, ap, _∙_, sym}
+use mathlib.Core.Path.{_≡_, refl, ap, _∙_}
 use mathlib.Core.Bool.{Bool, true, false}
 use mathlib.Core.List.{List}
 use native.Mathlib.Omega.{arith}

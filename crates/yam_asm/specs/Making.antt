@@ -4,8 +4,8 @@ use mathlib.Core.List.{List}
 use lib.Dec.{eqb}
 use Rattle.laws.specs.Choice.{pick}
 use Rattle.words.specs.declared.Config.{Config}
-use Rattle.assembler.specs.Answers.{Answer, assembleCall}
-use Rattle.image.specs.Storing.{Store, storeOf}
+use Rattle.assembler.specs.Answers.{assembleCall}
+use Rattle.image.specs.Storing.{storeOf}
 
 -- the documents' number, the line that it names, and the file then
 pub record Made : Type 0 where

@@ -1,24 +1,21 @@
 -- The first pass: what is left of the lines, after what is gathered, is the whole.
 -- Assumes nothing.
-use Prim.Native.Nat.{ℕ, zero, suc, _+_, _-_, _<_, _≤_}
-use mathlib.Core.Bool.{Bool, true, false, not, _&&_, _||_}
+use Prim.Native.Nat.{ℕ, suc, _+_, _-_, _<_, _≤_}
+use mathlib.Core.Bool.{Bool, true, false, not, _&&_}
 use mathlib.Core.Path.{_≡_, refl, ap, sym, subst, _∙_}
 use mathlib.Core.List.{List, [], _∷_}
-use native.Mathlib.Nat.{add-zero, add-suc, suc-add}
 use native.Mathlib.Omega.{arith}
-use borrow.Author.Tests.{eqb-true, eqb-false, eq-eqb, ne-eqb, le-leb, lt-leb}
-use lib.Dec.{T, eqb, leb}
+use borrow.Author.Tests.{eqb-true, eqb-false, ne-eqb, le-leb, lt-leb}
+use lib.Dec.{eqb, leb}
 use lib.ListN.{length, getD, take, drop, length-set}
 use lib.Seq.{slice}
-use Rattle.laws.specs.Choice.{pick, pick-yes, pick-no, is-true, true-is}
-use Rattle.laws.specs.Test.{Test, test, most, same, _and_}
-use Rattle.laws.specs.First.{first-failing}
+use Rattle.laws.specs.Choice.{pick, true-is}
 use Rattle.syntax.specs.Lines.{linesOf, lettersOf, labelled, counts}
 use Rattle.syntax.specs.Labels.{Label, label, gathered, known, repeats}
-use Rattle.syntax.specs.Assembly.{howMany, labelLimit}
+use Rattle.syntax.specs.Assembly.{howMany}
 use Rattle.assembler.specs.declared.Assembled.{Assembled}
 use Rattle.assembler.specs.Bytes.{linesFrom, LineEnd}
-use Rattle.assembler.specs.Chains.{spell, lookup, Chained, Keyed, Inserted}
+use Rattle.assembler.specs.Chains.{spell, lookup, Inserted}
 use Rattle.assembler.specs.declared.openings.Opening.{Opening}
 use Rattle.assembler.specs.Openings.{openingKey, Opens}
 use Rattle.assembler.specs.Gathering.{Roomy, Tabled, Added, gatherNumber, Gathers}

@@ -1,28 +1,26 @@
 -- A pass over the lines: what is left of them, after what is read, is the whole.
 -- Assumes nothing.
-use Prim.Native.Nat.{ℕ, zero, suc, _+_, _-_, _<_, _≤_}
+use Prim.Native.Nat.{ℕ, suc, _+_, _-_, _<_, _≤_}
 use mathlib.Core.Bool.{Bool, true, false, not, _&&_}
-use mathlib.Core.Path.{_≡_, refl, ap, sym, subst, _∙_}
+use mathlib.Core.Path.{_≡_, refl, ap, sym, _∙_}
 use mathlib.Core.List.{List, [], _∷_}
-use native.Mathlib.Nat.{add-zero, add-suc}
+use native.Mathlib.Nat.{add-zero}
 use native.Mathlib.Omega.{arith}
 use borrow.Author.Tests.{eqb-true, eq-eqb, ne-eqb, not-true, not-false}
 use lib.Dec.{eqb}
-use lib.ListN.{length, take, drop, set, length-set, length-drop}
+use lib.ListN.{length, take, drop, set, length-set}
 use lib.Seq.{slice, sets, set-out, length-slice, drop-drop}
 use Rattle.laws.specs.Choice.{pick}
 use Rattle.words.specs.declared.Config.{Config}
 use Rattle.words.specs.Words.{Written}
 use Rattle.syntax.specs.Lines.{linesOf, bodyOf, counts}
 use Rattle.syntax.specs.Labels.{Label, gathered, givenBy}
-use Rattle.syntax.specs.Assembly.{wordGiven, wordAt, Assembly, refused, passed, before, wordsFrom}
+use Rattle.syntax.specs.Assembly.{wordGiven, wordAt, Assembly, refused, before, wordsFrom}
 use Rattle.assembler.specs.declared.Assembled.{Assembled}
 use Rattle.assembler.specs.declared.lines.LineWord.{LineWord}
-use Rattle.assembler.specs.declared.openings.Opening.{Opening}
 use Rattle.assembler.specs.declared.writing.Outcome.{Outcome}
 use Rattle.assembler.specs.Bytes.{linesFrom, LineEnd}
 use Rattle.assembler.specs.Gathering.{Tabled}
-use Rattle.assembler.specs.Openings.{Opens}
 use Rattle.assembler.specs.Passing.{Gives, wordsOf, Passes}
 use Rattle.assembler.specs.Writing.{Searched, Worded}
 use Rattle.assembler.proofs.bytes.Laws.{lines-start, lines-past, part-line}

@@ -1,29 +1,29 @@
 -- The whole call.
 -- Assumes nothing.
-use Prim.Native.Nat.{ℕ, zero, suc, _<_}
+use Prim.Native.Nat.{ℕ, zero, suc}
 use mathlib.Core.Bool.{Bool, true, false, not}
 use mathlib.Core.Path.{_≡_, refl, ap, sym, _∙_}
 use mathlib.Core.List.{List, [], _∷_}
 use native.Mathlib.Omega.{arith}
-use borrow.Author.Tests.{eqb-true, eqb-false, ne-eqb, not-true, not-false}
+use borrow.Author.Tests.{ne-eqb, not-true, not-false}
 use lib.Dec.{eqb}
 use lib.ListN.{length, getD, replicate}
 use lib.Seq.{sets}
-use Rattle.laws.specs.Choice.{pick, pick-yes, true-is, is-true}
+use Rattle.laws.specs.Choice.{pick, true-is}
 use Rattle.laws.specs.Test.{test, Holds, holds}
 use Rattle.laws.specs.First.{first-failing}
 use Rattle.words.specs.declared.Config.{Config}
 use Rattle.words.specs.Configs.{lawful}
 use Rattle.syntax.specs.Lines.{linesOf}
 use Rattle.syntax.specs.Labels.{gathered, repeats}
-use Rattle.syntax.specs.Assembly.{Assembly, refused, wordsFrom, sourceRefusals, assembleOf}
+use Rattle.syntax.specs.Assembly.{Assembly, refused, sourceRefusals, assembleOf}
 use Rattle.syntax.proofs.Reading.{print-then-read, read-then-print, unread-none}
 use Rattle.syntax.proofs.Sources.{listed-back}
 use Rattle.syntax.proofs.Unlabelled.{assembled-back}
 use Rattle.syntax.proofs.Labels.{labels-mean}
 use Rattle.syntax.proofs.Resolved.{labels-resolved}
 use Rattle.assembler.specs.declared.Assembled.{Assembled}
-use Rattle.assembler.specs.Answers.{Answer, assembledOf, assembleCall}
+use Rattle.assembler.specs.Answers.{assembledOf, assembleCall}
 use Rattle.assembler.specs.Claims.{Assembles}
 use Rattle.assembler.specs.Gathering.{gatherNumber, Gathers}
 use Rattle.assembler.specs.Passing.{wordsOf, Passes, Finishes}

@@ -2,16 +2,16 @@
 -- Assumes nothing.
 use Prim.Native.Nat.{ℕ, zero, suc, _+_, _-_, _*_, _<_, _≤_}
 use mathlib.Core.Bool.{Bool, true, false, not, _&&_}
-use mathlib.Core.Path.{_≡_, refl, ap, sym, subst, _∙_}
+use mathlib.Core.Path.{_≡_, refl, ap, sym, _∙_}
 use mathlib.Core.List.{List, [], _∷_}
 use native.Mathlib.Nat.{le-of-suc-le-suc, not-suc-le-zero}
 use native.Mathlib.Omega.{arith}
-use borrow.Author.Tests.{eqb-true, eqb-false, eq-eqb, ne-eqb, lt-ltb, le-ltb, ltb-true, ltb-false}
+use borrow.Author.Tests.{eqb-true, ne-eqb, ltb-true, ltb-false}
 use lib.Dec.{T, eqb, ltb, leb, T-not}
 use lib.ListN.{length, getD, take, drop, length-drop, drop-of-length-le}
 use lib.Seq.{slice, take-all}
-use Rattle.laws.specs.Choice.{pick, is-true, is-false, true-is}
-use Rattle.laws.specs.Test.{Test, test, Holds, holds, and-left, and-right}
+use Rattle.laws.specs.Choice.{pick, is-false, true-is}
+use Rattle.laws.specs.Test.{test, Holds, holds, and-left, and-right}
 use Rattle.laws.specs.First.{first-failing}
 use Rattle.words.specs.declared.Config.{Config}
 use Rattle.words.specs.declared.Instruction.{Instruction}
@@ -26,9 +26,9 @@ use Rattle.words.specs.Packed.{writeLent}
 use Rattle.words.specs.Words.{Written, fits, refusals567, written, wordOf, writeLawful}
 use Rattle.words.proofs.Answers.{write-lent}
 use Rattle.words.proofs.Keys.{most-of}
-use Rattle.words.proofs.RoundTrip.{Bounds, bounds, range-most}
+use Rattle.words.proofs.RoundTrip.{bounds, range-most}
 use Rattle.syntax.specs.Lines.{lettersOf, beyond, isLabel}
-use Rattle.syntax.specs.Labels.{Label, Found, at, nowhere, addressOf, nameLength, operandsOf, targetOf, withAddress, setTarget, Given, plainly, labelwise, givenBy}
+use Rattle.syntax.specs.Labels.{Label, Found, at, nowhere, addressOf, nameLength, operandsOf, targetOf, withAddress, setTarget, labelwise, givenBy}
 use Rattle.syntax.specs.Reading.{Line, found, unread, readLine}
 use Rattle.syntax.specs.Assembly.{wordGiven}
 use Rattle.syntax.proofs.Sources.{okByte, clean, plain-read, no-target}
@@ -39,10 +39,8 @@ use Rattle.assembler.specs.Bytes.{isBeyond}
 use Rattle.assembler.specs.Packed.{lineOf, Shown, readIn, Finds}
 use Rattle.assembler.specs.declared.writing.Outcome.{Outcome}
 use Rattle.assembler.specs.Chains.{spell, labelKey, lookup, capped, placeOf, aim}
-use Rattle.assembler.specs.Gathering.{Tabled}
 use Rattle.assembler.specs.Writing.{outcomeOf, refusalOf, Writers, aimedWord, Worded}
 use Rattle.assembler.specs.Zeros.{zeroed}
-use Rattle.assembler.proofs.bytes.Laws.{part-line}
 use Rattle.assembler.proofs.labels.Laws.{letters-small, key-test, key-some, keyed-address}
 use Rattle.assembler.proofs.zeros.Laws.{length-zeroed, with-zeros}
 use Rattle.assembler.proofs.Heads.{read-long}

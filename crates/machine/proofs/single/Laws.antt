@@ -116,9 +116,6 @@ module _ (budget : ℕ) (some : 0 < budget) (e : Env) (s : State) (g : Good e s)
       went-stopped budget e s n (s .core) g (sym (ap (λ (o : Outcome). o .number) (refused-by e s (stopped (s .core) n) (sym p) z))) z
       (rw p at (stop-small e s)) some
 
-  same : (t : State) → t ≡ s → SameLengths s t
-  same t q = rw q (record { stack = refl; registers = refl; memory = refl; addresses = refl; values = refl })
-
   module _ (i : Instruction) (read : readLawful (e .config) word ≡ understood i) where
     row-kind : entryKind (entryAt (i .row)) ≡ Rattle.words.specs.Rows.rowAt (i .row) .kind
     row-kind = entry-kind (i .row) (read-row (e .config) word i read .1)
