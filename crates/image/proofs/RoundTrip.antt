@@ -303,11 +303,11 @@ pub store-refused : (c : Config) (image file : List ℕ) (r : ℕ) → r ≡ fir
 unfolding storeOf pick
 store-refused c image file r e h =
     let n : first-failing (storeTests c (length image) (length file)) ≡ r = sym e in
-    record { answer = rw (n, ne-eqb r 0 h); back = λ before z q. absurd (h z) }
+    record { answer = rw (n, ne-eqb r 0 h); back = store-then-load }
 
 pub stored : (c : Config) (image file after : List ℕ) → first-failing (storeTests c (length image) (length file)) ≡ 0 → after ≡ fileOf c image →
-    Words image → Stores c image file 0 after
+    Stores c image file 0 after
 unfolding storeOf pick
-stored c image file after z e h =
+stored c image file after z e =
     let a : _≡_ {A = Store} (record { number = 0; file = after }) (storeOf c image file) = rw (z, e) in
-    record { answer = a; back = λ before r q. ap (λ s. loadOf (s .file) before) a ∙ store-then-load c image file before h z q }
+    record { answer = a; back = store-then-load }

@@ -29,4 +29,4 @@ Loads file image r after = record { number = r .number; config = r .config; imag
 -- what `store` promises of its answer r and of what the buffer then holds
 pub record Stores (c : Config) (image file : List ℕ) (r : ℕ) (after : List ℕ) : Type 0 where
   pub answer : _≡_ {A = Store} (record { number = r; file = after }) (storeOf c image file)
-  pub back : (before : List ℕ) → r ≡ 0 → length image ≤ length before → loadOf after before ≡ loaded c image before
+  pub back : StoreThenLoad

@@ -18,7 +18,7 @@ put-file-requires : tie.Need-put-file-requires
 put-file-requires c κs = let z : first-failing (storeTests (c .before .before .before .before .before .args .c) (length (c .before .before .before .before .before .args .image .now)) (length (c .before .before .before .before .before .args .file .now))) ≡ 0 = sym (c .before .before .store-refusal .ensures) ∙ omega arith in store-passed _ _ _ z
 
 returns-2 : tie.Need-returns-2
-returns-2 c = let z : first-failing (storeTests (c .before .before .before .before .before .before .before .before .args .c) (length (c .before .before .before .before .before .before .before .before .args .image .now)) (length (c .before .before .before .before .before .before .before .before .args .file .now))) ≡ 0 = sym (c .before .before .before .before .before .store-refusal .ensures) ∙ omega arith in stored _ _ _ _ z (c .before .before .put-file .ensures) (λ i. omega (arith, c .before .before .before .before .before .before .before .shared-slice-known .given i))
+returns-2 c = let z : first-failing (storeTests (c .before .before .before .before .before .before .before .before .args .c) (length (c .before .before .before .before .before .before .before .before .args .image .now)) (length (c .before .before .before .before .before .before .before .before .args .file .now))) ≡ 0 = sym (c .before .before .before .before .before .store-refusal .ensures) ∙ omega arith in stored _ _ _ _ z (c .before .before .put-file .ensures)
 
 pub store-spec : {M : Type 1} → statement M
 store-spec =
