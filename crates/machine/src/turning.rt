@@ -29,6 +29,19 @@ const FEW: u64 = 16;
 
 const SMALL: u64 = 128;
 
+// The numbers of few, small and large cells, two a pair of an address and its cell, and the mask of the places of their pairs.
+const FEW_NUMBERS: usize = 32;
+
+const FEW_MASK: usize = 15;
+
+const SMALL_NUMBERS: usize = 256;
+
+const SMALL_MASK: usize = 127;
+
+const LARGE_NUMBERS: usize = 4096;
+
+const LARGE_MASK: usize = 2047;
+
 // One step.
 pub fn once(
     c: Config,
@@ -204,11 +217,11 @@ fn few(
     requires { ⌜ (length (now stack) ≡ 63) × Good (env c (now image) (now inputs)) (state m (now stack) (now registers) (now memory) (now addresses) (now values)) × (budget ≤ 1000000) ⌝ }
     ensures { λ r. ⌜ turnsEnd r (now (stack .exit)) (now (registers .exit)) (now (memory .exit)) (now (addresses .exit)) (now (values .exit)) ≡ endOf (runOf budget (env c (now (image .entry)) (now (inputs .entry))) (state m (now (stack .entry)) (now (registers .entry)) (now (memory .entry)) (now (addresses .entry)) (now (values .entry)))) ⌝ }
 {
-    let mut cells: [u64; 32] = [0; 32];
+    let mut cells: [u64; FEW_NUMBERS] = [0; FEW_NUMBERS];
     turning(
         c,
         m,
-        15,
+        FEW_MASK,
         &mut cells,
         image,
         inputs,
@@ -237,11 +250,11 @@ fn small(
     requires { ⌜ (length (now stack) ≡ 63) × Good (env c (now image) (now inputs)) (state m (now stack) (now registers) (now memory) (now addresses) (now values)) × (budget ≤ 1000000) ⌝ }
     ensures { λ r. ⌜ turnsEnd r (now (stack .exit)) (now (registers .exit)) (now (memory .exit)) (now (addresses .exit)) (now (values .exit)) ≡ endOf (runOf budget (env c (now (image .entry)) (now (inputs .entry))) (state m (now (stack .entry)) (now (registers .entry)) (now (memory .entry)) (now (addresses .entry)) (now (values .entry)))) ⌝ }
 {
-    let mut cells: [u64; 256] = [0; 256];
+    let mut cells: [u64; SMALL_NUMBERS] = [0; SMALL_NUMBERS];
     turning(
         c,
         m,
-        127,
+        SMALL_MASK,
         &mut cells,
         image,
         inputs,
@@ -270,11 +283,11 @@ fn large(
     requires { ⌜ (length (now stack) ≡ 63) × Good (env c (now image) (now inputs)) (state m (now stack) (now registers) (now memory) (now addresses) (now values)) × (budget ≤ 1000000) ⌝ }
     ensures { λ r. ⌜ turnsEnd r (now (stack .exit)) (now (registers .exit)) (now (memory .exit)) (now (addresses .exit)) (now (values .exit)) ≡ endOf (runOf budget (env c (now (image .entry)) (now (inputs .entry))) (state m (now (stack .entry)) (now (registers .entry)) (now (memory .entry)) (now (addresses .entry)) (now (values .entry)))) ⌝ }
 {
-    let mut cells: [u64; 4096] = [0; 4096];
+    let mut cells: [u64; LARGE_NUMBERS] = [0; LARGE_NUMBERS];
     turning(
         c,
         m,
-        2047,
+        LARGE_MASK,
         &mut cells,
         image,
         inputs,
