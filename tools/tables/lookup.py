@@ -29,8 +29,7 @@ def check(r):
     """Code in bits 22-0, what bits 22-16 and 15-0 hold beside it, option, and whether there is a byte number."""
     if not supported(r): return None
     lower = part(r, 'source') if part(r, 'value') == 'unused' else part(r, 'value')
-    side = lambda p: 'anything' if whole(r) else f'(part {p})'
-    return (r['base'] % (1 << 23), side(part(r, 'destination')), side(lower), r['option'], int(part(r, 'number') == 'byte'))
+    return (r['base'] % (1 << 23), part(r, 'destination'), lower, r['option'], int(part(r, 'number') == 'byte'))
 
 
 def numbered(of, first): return list(dict.fromkeys([first] + [of(r) for r in ROWS]))

@@ -266,27 +266,22 @@ actions =
 {lines(f'    action (λ f c. {a}) {sum(1 << lookup.USES.index(u) for u in lookup.uses(a))} ∷  -- {lookup.action_name(a)}' for a in lookup.ACTIONS)}
     []
 
--- what a place of a word may hold beside the code
-pub data Side : Type 0 where
-  anything : Side
-  part : Part → Side
-
 -- A check: the code in bits 22-0, what bits 22-16 and 15-0 hold beside it, the option, and whether there is a byte number.
 pub record Check : Type 0 where
   pub code : ℕ
-  pub upper : Side
-  pub lower : Side
+  pub upper : Part
+  pub lower : Part
   pub option : Option
   pub numbered : ℕ
 
-abbrev pub check : ℕ → Side → Side → Option → ℕ → Check
+abbrev pub check : ℕ → Part → Part → Option → ℕ → Check
 check code upper lower option numbered =
     record {{ code = code; upper = upper; lower = lower; option = option; numbered = numbered }}
 
 -- the first refuses everything
 unfoldable pub checks : List Check
 checks =
-    check 0 (part unused) (part unused) never 0 ∷
+    check 0 unused unused never 0 ∷
 {lines('    check 0x%x %s %s %s %d ∷' % c for c in lookup.CHECKS[1:])}
     []
 

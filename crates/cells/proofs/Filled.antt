@@ -7,7 +7,6 @@ use native.Mathlib.Omega.{arith}
 use native.Mathlib.Nat.{lt-of-lt-of-le}
 use borrow.Author.Tests.{ltb-true, ltb-false, eqb-false}
 use lib.Dec.{T, ltb, lt→ltb, eqb, eqb→eq, not-T}
-use lib.Bits.{bitAnd}
 use lib.Pow.{pow-mono}
 use Rattle.laws.specs.Choice.{pick, either, is-true, true-is}
 use Rattle.laws.specs.Test.{Test, most, same, isnt, yes?, no?, if?, _and_, test, Holds, holds, tests, and-both}
@@ -32,10 +31,10 @@ use Rattle.words.specs.Answers.{refusalNumber, readingOf}
 use Rattle.words.specs.Claims.{understood}
 use Rattle.words.specs.Facts.{factsFor}
 use Rattle.words.specs.Actions.{flag′, destination′, source′, number′, value′, target′, unit′, actions, entries}
-use Rattle.words.specs.Lookup.{entryAt, entryOf, actionAt, entryKind, checkAt, upperLimit, lowerLimit, maskOf, Agrees}
+use Rattle.words.specs.Lookup.{entryAt, entryOf, actionAt, entryKind, withinLimits, Agrees}
 use Rattle.words.proofs.Checks.{alike, alike-is, isnt-it}
 use Rattle.words.proofs.Lookup.{read-row, quick, agrees}
-use Rattle.words.proofs.Clear.{mask-quick}
+use Rattle.words.proofs.Quick.{within-quick}
 use Rattle.words.proofs.Answers.{lawful-read}
 use Rattle.arith.specs.Width.{one}
 use Rattle.arith.proofs.Fits.{bits-width, immediate-answer-fits}
@@ -328,15 +327,13 @@ read-cell c w n t r i hw p q e hc read =
     let row : i .row ≡ n = ap (λ (j : Instruction). j .row) (read-row c w i read .2) ∙ sym p in
     rw (e, q, sym row, read) (filled-right c w i hc hw read)
 
--- one that is clear of the mask of its check
-pub quick-cell : (c : Config) (w n t m r : ℕ) → w < 0x100000000 → n ≡ rowOf (classOf (w / 0x800000)) (w % 0x800000) → t ≡ templateOf n →
-    m ≡ maskOf (upperLimit c (checkAt (t / 0x400 % 64))) (lowerLimit c (checkAt (t / 0x400 % 64))) → bitAnd w m ≡ 0 → r ≡ filled c t w →
-    Holds (lawful c) → r ≡ cellOf c w
+-- one that is within the limits of its check
+pub quick-cell : (c : Config) (w n t r : ℕ) (b : Bool) → w < 0x100000000 → n ≡ rowOf (classOf (w / 0x800000)) (w % 0x800000) → t ≡ templateOf n →
+    b ≡ withinLimits c (t / 0x400 % 64) w → b ≡ true → r ≡ filled c t w → Holds (lawful c) → r ≡ cellOf c w
 unfolding entryOf
-quick-cell c w n t m r hw p q e z f hc =
+quick-cell c w n t r b hw p q e z f hc =
     let check : t / 0x400 % 64 ≡ entryOf w % 64 = rw q (template-check n ∙ rw p) in
-    let clear = rw (e, check) at z in
-    read-cell c w n t r (partsOf c w) hw p q f hc (quick c w hc hw (mask-quick c w hc hw clear))
+    read-cell c w n t r (partsOf c w) hw p q f hc (quick c w hc hw (within-quick c w (ap (λ k. withinLimits c k w) (sym check) ∙ (sym e ∙ z))))
 
 -- one that is read before it is decoded: under a lawful configuration 1 is passed over
 pub answered : (c : Config) (w : ℕ) (r : Read) → Holds (lawful c) → r ≡ readOf c w → r ≡ readLawful c w

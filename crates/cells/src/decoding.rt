@@ -1,4 +1,4 @@
-// Decoding a word to its cell: by the template of its row, where one mask tells that the word can be read; else it is read first.
+// Decoding a word to its cell: by the template of its row, where two limits tell that the word can be read; else it is read first.
 ghost use mathlib.Core.Path.{_≡_};
 ghost use Prim.Native.Nat.{_+_, _/_, _%_, _≤_};
 ghost use Rattle.laws.specs.Test.{Holds};
@@ -86,7 +86,7 @@ pub fn decode(c: Config, w: u32) -> u64
     ensures { λ r. ⌜ (Holds (lawful c) → r ≡ cellOf c w) ⌝ }
 {
     let t = template(words::row_of_word(w));
-    if w & words::mask_for(c, t / own::CHECK % own::CHECKS) == 0 {
+    if words::within_limits(c, t / own::CHECK % own::CHECKS, w) {
         return filled(c, t, w);
     }
     let r = words::read_word(c, w);

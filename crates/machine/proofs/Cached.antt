@@ -79,7 +79,7 @@ decided e s x k r g m (inr p) a q = go (cell-told (e .config) word (g .lawful) (
         record {
           apart = a .apart;
           change = λ n.
-              a .acts (entryAt (i .row)) i (rw (p .2) (cell-carries (e .config) w i (g .lawful) (p .1) rd t)) (valued (e .config) w i rd) n m ∙
+              a .acts (entryAt (i .row)) i (rw (p .2) (cell-carries (e .config) w i (g .lawful) (p .1) rd t)) (valued (e .config) w i (g .lawful) rd) n m ∙
               sym (acted-here e s (p .0) i rd (v ∙ refl));
           cycles = λ n y.
               q ∙

@@ -19,12 +19,14 @@ use Rattle.words.specs.Kinds.{Kind, Condition, marksOf}
 use Rattle.words.specs.Frames.{frameOf}
 use Rattle.words.specs.Rows.{rows, rowCount, rowAt}
 use Rattle.words.specs.Words.{refusals567, fits, answered, partsOf, readBy, readLawful}
+use Rattle.words.specs.Configs.{lawful}
 use Rattle.words.specs.Claims.{understood}
 use Rattle.words.specs.Facts.{factsFor, factsOf}
 use Rattle.words.specs.Codes.{formAt, conditionAt}
 use Rattle.words.specs.Actions.{actions}
 use Rattle.words.specs.Lookup.{actionAt, entryAt, entryKind}
-use Rattle.words.proofs.RoundTrip.{decoded}
+use Rattle.words.proofs.Keys.{most-of}
+use Rattle.words.proofs.RoundTrip.{decoded, Bounds, bounds, range-most}
 use Rattle.words.proofs.Checks.{entry-kind, is-it, needs-it}
 use Rattle.words.proofs.Lookup.{read-row}
 use Rattle.state.specs.State.{Env, State}
@@ -133,13 +135,13 @@ few : (c : Config) (p : Part) (v : ℕ) → p ≡ count → Holds (inRange c p v
 unfolding inRange
 few c p v q h = let t = rw q at h in t .0
 
-low : (c : Config) (p : Part) (v : ℕ) → p ≡ bank-address → Holds (inRange c p v) → v < 65536
-unfolding inRange
-low c p v q h = rw q at h
+low : (c : Config) (p : Part) (v : ℕ) → Bounds c → p ≡ bank-address → Holds (inRange c p v) → v < 65536
+unfolding most-of
+low c p v b q h = rw q at (range-most c p v b h)
 
-pub valued : (c : Config) (w : ℕ) (i : Instruction) → readLawful c w ≡ understood i → Valued (entryAt (i .row)) i
+pub valued : (c : Config) (w : ℕ) (i : Instruction) → Holds (lawful c) → readLawful c w ≡ understood i → Valued (entryAt (i .row)) i
 unfolding refusals567 fits
-valued c w i q =
+valued c w i hc q =
     let tests = refusals567 c (rowAt (partsOf c w .row)) (partsOf c w) in
     let d = decoded (reads c w) (partsOf c w) i (sym (read-is c w) ∙ q) in
     let o = obeyed tests (numbered tests tt) (d .0) in
@@ -149,7 +151,7 @@ valued c w i q =
     let kind = entry-kind (i .row) (r .1) in
     record {
       count = λ a k. few c _ (i .value) (part ∙ ap (λ (x : Kind). frameOf x .value) (sym kind ∙ k)) range;
-      address = λ k. low c _ (i .value) (part ∙ ap (λ (x : Kind). frameOf x .value) (sym kind ∙ k)) range;
+      address = λ k. low c _ (i .value) (bounds c hc) (part ∙ ap (λ (x : Kind). frameOf x .value) (sym kind ∙ k)) range;
     }
 
 -- What the loop carries out switches no mode, and reads a special register by MOV alone

@@ -112,11 +112,16 @@ cases =
     (word 2 0xf8810000 ∷ [], broken 2 3) ∷
     (word 2 0xf1020002 ∷ [], broken 2 3) ∷
     (word 2 0xf0010000 ∷ [], broken 2 3) ∷
-    -- 4: next unused, target unused, next past the end, target past the end
+    -- a direct target past the end: JMP, JMP by condition, JSR; and where next is past the end too
+    (word 4 0xc0000009 ∷ [], broken 4 3) ∷
+    (word 3 0xc0800009 ∷ [], broken 3 3) ∷
+    (word 0 0xf0800009 ∷ [], broken 0 3) ∷
+    (word 8 0xc0800009 ∷ [], broken 8 3) ∷
+    -- 4: next unused, target unused, next past the end
     (mark 1 255 ∷ [], broken 0 4) ∷
     (mark 5 255 ∷ [], broken 0 4) ∷
     (word 8 0xa0030004 ∷ [], broken 8 4) ∷
-    (word 4 0xc0000009 ∷ [], broken 4 4) ∷
+    (word 8 0xc0800005 ∷ [], broken 8 4) ∷
     -- 5: JSR to main, its next a subroutine, a jump and a fall out of main, RET in main
     (mark 5 0 ∷ [], broken 0 5) ∷
     (mark 1 64 ∷ [], broken 0 5) ∷

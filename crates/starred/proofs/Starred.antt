@@ -6,7 +6,7 @@ use Rattle.words.specs.Kinds.{marksOf}
 use Rattle.words.specs.Rows.{rows, rowAt}
 use Rattle.words.specs.Facts.{factsFor}
 use Rattle.words.specs.Classes.{classOf, fieldOf, codeAt, choices, rowIn, rowOf}
-use Rattle.words.specs.Words.{flagIn, layoutOf, upperIn, lowerIn, valueIn, fieldsIn, spread, fits, refusals567, refusals, answered, partsBy, partsOf, readOf}
+use Rattle.words.specs.Words.{flagIn, layoutOf, upperIn, lowerIn, valueIn, fieldsIn, spread, fits, refusals567, refusals, answered, partsBy, partsOf, readOf, gather, wordFrom, wordOf, written, writeOf}
 use Rattle.arith.specs.Width.{bits, one}
 use Rattle.arith.specs.Sums.{addOf, difference, subOf, signed, subsOf}
 use Rattle.arith.specs.Shifts.{shlOf, shrOf}
@@ -27,5 +27,5 @@ unfolding pick lawful inRange available marksOf factsFor rows rowAt classOf fiel
 starred-cases = tt
 
 pub right-readings : RightReadings
-unfolding pick lawful inRange available marksOf factsFor rows rowAt classOf fieldOf codeAt choices rowIn rowOf flagIn layoutOf upperIn lowerIn valueIn fieldsIn spread fits refusals567 refusals answered partsBy partsOf readOf bits one addOf absOf aluOf stackLimit inRanges guards operand computePlan planOf stops9to15 stops number putOf applied planAt cyclesOf advanceOf stepOf
+unfolding pick lawful inRange available marksOf factsFor rows rowAt classOf fieldOf codeAt choices rowIn rowOf flagIn layoutOf upperIn lowerIn valueIn fieldsIn spread fits refusals567 refusals answered partsBy partsOf readOf gather wordFrom wordOf written writeOf bits one addOf absOf aluOf stackLimit inRanges guards operand computePlan planOf stops9to15 stops number putOf applied planAt cyclesOf advanceOf stepOf
 right-readings = tt

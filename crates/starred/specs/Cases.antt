@@ -11,12 +11,12 @@ use Rattle.state.specs.declared.Core.{Core}
 use Rattle.state.specs.State.{State, env, state}
 use Rattle.state.specs.Step.{Outcome, stepOf}
 
--- a lawful core: W, RM_SIZE, ALU_LEVEL and DM_SIZE as given, every other option on
-abbrev pub configured : ℕ → ℕ → ℕ → ℕ → Config
-configured width registers level data-size =
+-- a lawful core: IM_SIZE, W, RM_SIZE, ALU_LEVEL and DM_SIZE as given, every other option on
+abbrev pub sized : ℕ → ℕ → ℕ → ℕ → ℕ → Config
+sized image-size width registers level data-size =
     record {
       imwidth = 32;
-      imsize = 128;
+      imsize = image-size;
       regwidth = width;
       regsize = 16;
       rmsize = registers;
@@ -35,6 +35,10 @@ configured width registers level data-size =
       copmsize = 0;
       yamdbg = 0;
     }
+
+-- with an image that holds every target of a case; K2: "the JSRWP case has an IM_SIZE above 40 hex"
+abbrev pub configured : ℕ → ℕ → ℕ → ℕ → Config
+configured = sized 128
 
 -- every option that a lawful configuration can have, and what is left of them at W = 8
 abbrev pub full : Config

@@ -4,15 +4,16 @@ use mathlib.Core.Bool.{Bool, true, _&&_}
 use mathlib.Core.List.{List, [], _∷_}
 use lib.Dec.{T, eqb}
 use Rattle.laws.specs.Choice.{pick}
-use Rattle.words.specs.Words.{partsOf, readOf}
+use Rattle.words.specs.Words.{partsOf, readOf, writeOf}
 use Rattle.words.specs.Facts.{factsOf}
-use Rattle.starred.specs.Cases.{configured, full, pair, stepped, leaves, Case, answers, computes, right}
+use Rattle.starred.specs.Cases.{sized, configured, full, pair, stepped, leaves, Case, answers, computes, right}
 
 pub data Reading : Type 0 where
   result : Case → Reading
   keeps : ℕ → ℕ → ℕ → ℕ → ℕ → ℕ → Reading  -- a word, %02 and %03 before it; %02 after it, Z and N before and after it
   parts : ℕ → ℕ → ℕ → ℕ → Reading  -- a word, and its destination, source and value as they are read
   bars : ℕ → ℕ → Reading  -- a word, and 1 where rule 3 bars its instruction
+  within : ℕ → ℕ → ℕ → Reading  -- a word in an image of so many words, and the number that reading it answers, and writing its parts
 
 abbrev pub so : Reading → Bool
 so (result k) = right k
@@ -21,6 +22,9 @@ so (parts w d s v) =
     let r = readOf full w in
     let i = r .instruction in
     eqb (r .number) 0 && (eqb (i .destination) d && (eqb (i .source) s && eqb (i .value) v))
+so (within size w n) =
+    let c = sized size 32 64 2 32 in
+    eqb (readOf c w .number) n && eqb (writeOf c (partsOf c w) .number) n
 so (bars w x) = eqb (readOf full w .number) 0 && eqb (pick (factsOf (partsOf full w .row) .barred) 1 0) x
 
 abbrev pub readings : List Reading
@@ -54,6 +58,20 @@ readings =
     parts 0xf1020040 2 0 64 ∷  -- JSRWP 0040,020
     bars 0xc8000000 1 ∷  -- JMP @%d
     bars 0xc0000000 0 ∷  -- JMP target
+    -- K2: "A direct JMP or JSR target at or above IM_SIZE is to be refused when the word is read or written, and so is a JSRWP address."
+    within 6 0xc0000005 0 ∷  -- JMP 000005
+    within 6 0xc0000006 7 ∷  -- JMP 000006
+    within 6 0xc1000005 0 ∷  -- JMP 000005,NZ
+    within 6 0xc1000006 7 ∷  -- JMP 000006,NZ
+    within 6 0xc6000005 0 ∷  -- JMP 000005,BIO
+    within 6 0xc6000006 7 ∷  -- JMP 000006,BIO
+    within 6 0xc07fffff 7 ∷  -- JMP 7fffff
+    within 6 0xf0800005 0 ∷  -- JSR 000005
+    within 6 0xf0800006 7 ∷  -- JSR 000006
+    within 64 0xf1020040 7 ∷  -- JSRWP 0040,020
+    within 65 0xf1020040 0 ∷
+    within 6 0xc4000006 6 ∷  -- "7, in its old place": condition 8 is 6
+    within 6 0xc6800006 5 ∷  -- condition 13 is 5
     []
 
 abbrev pub all-so : List Reading → Bool

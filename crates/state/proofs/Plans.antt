@@ -13,7 +13,7 @@ use Rattle.laws.specs.First.{Obeyed}
 use Rattle.laws.specs.Cells.{below-at, below-above, below-from}
 use Rattle.words.specs.declared.Config.{Config}
 use Rattle.words.specs.declared.Instruction.{Instruction}
-use Rattle.words.specs.Parts.{register as register-part, is, inRange}
+use Rattle.words.specs.Parts.{register as register-part, target as target-part, is, inRange}
 use Rattle.words.specs.Kinds.{Operand, Condition}
 use Rattle.words.specs.Kinds.{Kind, marksOf, unsupported, compute, compare, multiply, bytewise, load-index, index-store, index-load, move, load-constant, load-register, load-direct, store-register, store-direct, port-read, port-modify, port-write, jump, branch, jump-register, branch-register, call, call-register, ret, ret-constant, enter-bank, leave-bank, enter-special, leave-special}
 use Rattle.words.specs.Rows.{Row, rowAt}
@@ -33,7 +33,7 @@ use Rattle.state.specs.Stops.{stops9to15, partsAt, kindAt}
 use Rattle.state.specs.Step.{putOf, planAt}
 use Rattle.state.specs.Good.{Indices, InBank, Posted, Ranged, Good}
 use Rattle.state.proofs.Ranges.{Bounds, bounds, top-byte}
-use Rattle.state.proofs.Stops.{tells, a-register, a-target, an-entry, an-address, with-banks, Told}
+use Rattle.state.proofs.Stops.{tells, a-register, a-target, an-entry, an-address, with-banks, Told, told-value}
 use Rattle.state.proofs.Cores.{kept-at, kept-banked, kept-indexed, kept-flagged, kept-multiplied, kept-deep, kept-masked, kept-posting, kept-taking, kept-logging}
 use Rattle.state.specs.Landing.{Inside}
 use Rattle.state.proofs.Step.{Small, Sound}
@@ -90,8 +90,7 @@ module _ (e : Env) (s : State) (g : Good e s) where
 
   module _ (t : Told e s) where
     fits-value : Holds (inRange c (r .value) (i .value))
-    unfolding fits
-    fits-value = t .fit .1 .1 .1 .1
+    fits-value = told-value e s t
 
     fits-source : Holds (inRange c (r .source) (i .source))
     unfolding fits
@@ -259,6 +258,9 @@ module _ (e : Env) (s : State) (g : Good e s) where
     register-target : registerTarget (D v i) < 0x800000
     register-target = omega arith
 
+    direct-target : T (is (r .value) target-part) → i .value < 0x800000
+    direct-target p = omega (arith, a-target c (r .value) (i .value) p fits-value, law .image)
+
     jump-sound : {a : ℕ} → a < 0x800000 → Sound e s (moved (at (M v i) a))
     jump-sound h = moved-sound (to h) refl
 
@@ -319,10 +321,10 @@ module _ (e : Env) (s : State) (g : Good e s) where
     in-unit : (u : ℕ) → 16 * u + c .regsize ≤ c .rmsize → InBank c (16 * u)
     in-unit u h = record { whole = omega arith; inside = h }
 
-    enter-bank-sound : i .value < 65536 → 16 * i .destination + c .regsize ≤ c .rmsize → c .regsize < c .rmsize → Sound e s (enterBankPlan v i)
+    enter-bank-sound : i .value < c .imsize → 16 * i .destination + c .regsize ≤ c .rmsize → c .regsize < c .rmsize → Sound e s (enterBankPlan v i)
     unfolding enterBankPlan
     enter-bank-sound a b k =
-        register-sound (kept-banked (to (omega arith)) (in-unit (i .destination) b)) refl (context-word k)
+        register-sound (kept-banked (to (omega (arith, a, law .image))) (in-unit (i .destination) b)) refl (context-word k)
         (omega (arith, b, law .registers-some))
 
     leave-bank-sound : 16 * (register v 0 / 0x4000000) + c .regsize ≤ c .rmsize → Sound e s (leaveBankPlan v i)
@@ -368,11 +370,11 @@ module _ (e : Env) (s : State) (g : Good e s) where
     by-kind port-read p q = port-read-sound (q .1 .1 .1 .1 .1 .0 tt) p
     by-kind port-modify p q = port-modify-sound (q .1 .1 .1 .1 .1 .0 tt) (q .1 .1 .1 .1 .1 .1 .0 tt) p
     by-kind (port-write x) p q = port-write-sound x (q .1 .1 .1 .1 .1 .1 .0 tt)
-    by-kind jump p q = jump-sound (a-target c (r .value) (i .value) p fits-value)
-    by-kind (branch k) p q = branch-sound k (i .value) (a-target c (r .value) (i .value) p fits-value)
+    by-kind jump p q = jump-sound (direct-target p)
+    by-kind (branch k) p q = branch-sound k (i .value) (direct-target p)
     by-kind jump-register p q = jump-sound register-target
     by-kind (branch-register k) p q = branch-sound k (registerTarget (D v i)) register-target
-    by-kind call p q = call-sound (i .value) (q .1 .0 tt) (a-target c (r .value) (i .value) p fits-value)
+    by-kind call p q = call-sound (i .value) (q .1 .0 tt) (direct-target p)
     by-kind call-register p q = call-sound (registerTarget (D v i)) (q .1 .0 tt) register-target
     by-kind ret p q = ret-sound (q .1 .1 .0 tt) no-write nowhere
     by-kind ret-constant p q = ret-sound (q .1 .1 .0 tt) (wrote (constant-word _ _)) (landed (assigned p))

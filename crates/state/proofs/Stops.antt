@@ -73,11 +73,11 @@ module _ (c : Config) (p : Part) (v : ℕ) where
   unfolding inRange
   a-register t h = rw (decided-yes (Part-discrete p register) t) at h
 
-  pub a-target : T (is p target) → Holds (inRange c p v) → v < 0x800000
+  pub a-target : T (is p target) → Holds (inRange c p v) → v < c .imsize
   unfolding inRange
   a-target t h = rw (decided-yes (Part-discrete p target) t) at h
 
-  pub an-entry : T (is p bank-address) → Holds (inRange c p v) → v < 65536
+  pub an-entry : T (is p bank-address) → Holds (inRange c p v) → v < c .imsize
   unfolding inRange
   an-entry t h = rw (decided-yes (Part-discrete p bank-address) t) at h
 
@@ -96,6 +96,11 @@ pub record Told (e : Env) (s : State) : Type 0 where
   pub fit : Holds (fits (e .config) (rowAt (partsAt e s .row)) (partsAt e s))
   pub parts : Holds (tells (kindAt e s) (rowAt (partsAt e s .row)))
   pub stops : Obeyed (stops9to15 (viewOf e s) (partsAt e s) (factsAt e s))
+
+-- the value of the word at PC is in its range
+pub told-value : (e : Env) (s : State) → Told e s → Holds (inRange (e .config) (rowAt (partsAt e s .row) .value) (partsAt e s .value))
+unfolding fits
+told-value e s t = t .fit .1 .1 .1 .1
 
 pub told : (e : Env) (s : State) → number e s ≡ 0 → Told e s
 unfolding number stops refusals567 stops9to15

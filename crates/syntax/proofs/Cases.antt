@@ -71,6 +71,9 @@ cases =
     ("JMP end\nend:", (0, (0, 0xc0000001 ∷ []))) ∷
     ("loop: JSRWP loop,020", (26, (1, []))) ∷
     ("JMP abcdef", (7, (1, []))) ∷
+    ("JMP 000005", (0, (0, 0xc0000005 ∷ []))) ∷  -- K2: by IM_SIZE, which is 6, and not by how many words the text has
+    ("JMP 000006", (7, (1, []))) ∷
+    ("JMP end\nRET\nRET\nRET\nRET\nRET\nend:", (7, (1, []))) ∷
     ("JMP face", (26, (1, []))) ∷
     ("loop:RET", (26, (1, []))) ∷
     ("loop: FOO\nJMP loop", (26, (1, []))) ∷

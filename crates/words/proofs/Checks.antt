@@ -10,13 +10,13 @@ use Rattle.laws.specs.Lists.{column, column-at}
 use Rattle.laws.specs.Test.{Test, less, same, yes?, if?, _and_, _or_, test, Holds, holds, imp}
 use Rattle.laws.specs.Table.{every, at-every}
 use Rattle.words.specs.declared.Config.{Config}
-use Rattle.words.specs.Parts.{Part, Part-discrete, unused, flag, byte, register, target, is}
+use Rattle.words.specs.Parts.{Part, Part-discrete, unused, flag, byte, register, is}
 use Rattle.words.specs.Parts.{Option, Option-discrete, never, needs}
 use Rattle.words.specs.Kinds.{Kind, unsupported}
 use Rattle.words.specs.Rows.{Row, rows, noRow, rowCount, rowAt}
 use Rattle.words.specs.Codes.{formAt, conditionAt}
 use Rattle.words.specs.Words.{Layout, registers, upper-value, whole, layoutOf, upperIn, lowerIn, valueIn}
-use Rattle.words.specs.Actions.{flag′, destination′, source′, number′, value′, target′, unit′, actions, Side, anything, part, Check, checks, entries}
+use Rattle.words.specs.Actions.{flag′, destination′, source′, number′, value′, target′, unit′, actions, Check, checks, entries}
 use Rattle.words.specs.Lookup.{entryAt, actionAt, entryKind, checkAt}
 use Rattle.words.proofs.Keys.{key, code}
 
@@ -63,23 +63,17 @@ entry-kind n o =
 
 -- Checks
 
--- the side of a check is what a part holds
-abbrev pub side-is : Side → Part → Bool
-side-is anything p = false
-side-is (part q) p = is q p
-
-pub side-it : (s : Side) (p : Part) → T (side-is s p) → s ≡ part p
-side-it anything p t = absurd t
-side-it (part q) p t = ap part (is-it q p t)
-
 -- the check's limits are those of the parts that stand in bits 22-16 and 15-0
 abbrev pub sides-like : Layout → Row → Check → Test
 sides-like registers r k =
-    yes? (side-is (k .upper) (r .destination)) and yes? (side-is (k .lower) (r .source)) and yes? (is (r .value) unused)
+    yes? (is (k .upper) (r .destination)) and yes? (is (k .lower) (r .source)) and yes? (is (r .value) unused)
 sides-like upper-value r k =
-    yes? (side-is (k .upper) (r .destination)) and yes? (side-is (k .lower) (r .value)) and yes? (is (r .source) unused)
+    yes? (is (k .upper) (r .destination)) and yes? (is (k .lower) (r .value)) and yes? (is (r .source) unused)
 sides-like whole r k =
-    yes? (is (r .destination) unused) and yes? (is (r .source) unused) and yes? (is (r .value) target)
+    yes? (is (k .upper) unused) and
+    yes? (is (k .lower) (r .value)) and
+    yes? (is (r .source) unused) and
+    yes? (is (r .destination) unused)
 
 abbrev pub check-like : Config → Row → Check → Test
 check-like c r k =

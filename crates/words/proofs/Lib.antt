@@ -8,5 +8,4 @@ pub mod Packed
 pub mod Checks
 pub mod Parts
 pub mod Lookup
-pub mod Clear
 pub mod Answers

@@ -23,12 +23,12 @@ use Rattle.words.specs.Words.{flagIn, Layout, registers, upper-value, wh
 use Rattle.words.specs.Classes.{index, upper-bytes, port, irq-switch, misc, classOf, fieldOf, codeAt, choices, lookup, rowIn, rowOf}
 use Rattle.words.specs.Configs.{registerSizes, lawful}
 use Rattle.words.specs.Claims.{understood}
-use Rattle.words.specs.Actions.{part, Check, checks, entries}
+use Rattle.words.specs.Actions.{Check, checks, entries}
 use Rattle.words.specs.Packed.{limitOf}
 use Rattle.words.specs.Lookup.{entryAt, entryOf, checkAt, limitIn, upperLimit, lowerLimit, Quick, Agrees}
 use Rattle.words.proofs.Keys.{code, most-of, row-facts}
 use Rattle.words.proofs.RoundTrip.{decoded}
-use Rattle.words.proofs.Checks.{is-it, needs-it, isnt-it, side-it, sides-like, check-at, upper-at, lower-at, value-at, whole-at, uses-at}
+use Rattle.words.proofs.Checks.{is-it, needs-it, isnt-it, sides-like, check-at, upper-at, lower-at, value-at, whole-at, uses-at}
 
 -- A word that is read
 
@@ -80,35 +80,35 @@ unfolding inRange most-of
 number-fits c p m h (inl e) = let z = rw e at h in rw e (omega (arith, z))
 number-fits c p m h (inr e) = rw (e .0, e .1) (rw (e .0) at h)
 
-limit-under : (c : Config) (all : ℕ) (p : Part) (m : ℕ) → m < limitIn c all (part p) → Holds (inRange c p m)
+limit-under : (c : Config) (p : Part) (m : ℕ) → m < limitIn c p → Holds (inRange c p m)
 unfolding limitIn limitOf inRange pick
-limit-under c all unused m h = omega arith
-limit-under c all flag m h = h
-limit-under c all byte m h = h
-limit-under c all coprocessor m h = h
-limit-under c all register m h = h
-limit-under c all unit m h = h
-limit-under c all mask m h = h
-limit-under c all immediate m h = h
-limit-under c all read-address m h = h
-limit-under c all write-address m h = h
-limit-under c all target m h = h
-limit-under c all count m h = let q = above-pick (eqb (c .alulevel) 0) m 16 h in (q .1, λ t. absurd (q .0 t))
-limit-under c all bank-address m h = h
-limit-under c all short m h = h
+limit-under c unused m h = omega arith
+limit-under c flag m h = h
+limit-under c byte m h = h
+limit-under c coprocessor m h = h
+limit-under c register m h = h
+limit-under c unit m h = h
+limit-under c mask m h = h
+limit-under c immediate m h = h
+limit-under c read-address m h = h
+limit-under c write-address m h = h
+limit-under c target m h = h
+limit-under c count m h = let q = above-pick (eqb (c .alulevel) 0) m 16 h in (q .1, λ t. absurd (q .0 t))
+limit-under c bank-address m h = h
+limit-under c short m h = h
+
+nothing-beside : (c : Config) → limitIn c unused ≡ 1
+unfolding limitIn limitOf inRange pick
+nothing-beside c = refl
 
 unused-fits : (c : Config) (p : Part) → p ≡ unused → Holds (inRange c p 0)
 unfolding inRange
 unused-fits c p e = rw e refl
 
-target-fits : (c : Config) (p : Part) (v : ℕ) → p ≡ target → v < 0x800000 → Holds (inRange c p v)
-unfolding inRange
-target-fits c p v e h = rw e h
-
 module _
     (c : Config) (r : Row) (k : Check) (f : ℕ) (same-code : k .code ≡ code r) (most-code : code r ≤ f) (most-low : code r % 65536 ≤ f % 65536)
-    (hf : f < 0x800000) (hu : f / 65536 < k .code / 65536 + limitIn c 128 (k .upper))
-    (hl : f % 65536 < k .code % 65536 + limitIn c 65536 (k .lower)) where
+    (hf : f < 0x800000) (hu : f / 65536 < k .code / 65536 + limitIn c (k .upper))
+    (hl : f % 65536 < k .code % 65536 + limitIn c (k .lower)) where
   sides-fit : (y : Layout) → Holds (sides-like y r k) → Holds (
       inRange c (r .destination) (upperIn y (f - code r)) and
       inRange c (r .source) (lowerIn y (f - code r)) and
@@ -116,30 +116,32 @@ module _
       )
   unfolding upperIn lowerIn valueIn
   sides-fit registers t =
-      let u = rw (side-it (k .upper) (r .destination) (t .0), same-code) at hu in
-      let l = rw (side-it (k .lower) (r .source) (t .1 .0), same-code) at hl in (
-        limit-under c 128 (r .destination) ((f - code r) / 65536) (omega arith),
+      let u = rw (is-it (k .upper) (r .destination) (t .0), same-code) at hu in
+      let l = rw (is-it (k .lower) (r .source) (t .1 .0), same-code) at hl in (
+        limit-under c (r .destination) ((f - code r) / 65536) (omega arith),
         (
-          limit-under c 65536 (r .source) ((f - code r) % 65536) (omega arith),
+          limit-under c (r .source) ((f - code r) % 65536) (omega arith),
           unused-fits c _ (is-it (r .value) unused (t .1 .1)),
         ),
       )
   sides-fit upper-value t =
-      let u = rw (side-it (k .upper) (r .destination) (t .0), same-code) at hu in
-      let l = rw (side-it (k .lower) (r .value) (t .1 .0), same-code) at hl in (
-        limit-under c 128 (r .destination) ((f - code r) / 65536) (omega arith),
+      let u = rw (is-it (k .upper) (r .destination) (t .0), same-code) at hu in
+      let l = rw (is-it (k .lower) (r .value) (t .1 .0), same-code) at hl in (
+        limit-under c (r .destination) ((f - code r) / 65536) (omega arith),
         (
           unused-fits c _ (is-it (r .source) unused (t .1 .1)),
-          limit-under c 65536 (r .value) ((f - code r) % 65536) (omega arith),
+          limit-under c (r .value) ((f - code r) % 65536) (omega arith),
         ),
       )
-  sides-fit whole t = (
-    unused-fits c _ (is-it (r .destination) unused (t .0)),
-    (
-      unused-fits c _ (is-it (r .source) unused (t .1 .0)),
-      target-fits c (r .value) (f - code r) (is-it (r .value) target (t .1 .1)) (omega arith),
-    ),
-  )
+  sides-fit whole t =
+      let u = rw (is-it (k .upper) unused (t .0), nothing-beside c, same-code) at hu in
+      let l = rw (is-it (k .lower) (r .value) (t .1 .0), same-code) at hl in (
+        unused-fits c _ (is-it (r .destination) unused (t .1 .1 .1)),
+        (
+          unused-fits c _ (is-it (r .source) unused (t .1 .1 .0)),
+          limit-under c (r .value) (f - code r) (omega (arith, u, l)),
+        ),
+      )
 
 past-entries : (n : ℕ) → rowCount ≤ n → entryAt n ≡ 0
 unfolding entryAt entries
@@ -176,7 +178,7 @@ obeys c w hw q =
     let x = checkAt (entryAt n % 64) in
     let there = test (available c (x .option)) in
     let wide = imp (eqb (x .numbered) 1) (eqb (c .regwidth) 32) in
-    let u = under-pick (there && wide) (w / 65536 % 128) (x .code / 65536 + limitIn c 128 (x .upper)) (q .upper) in
+    let u = under-pick (there && wide) (w / 65536 % 128) (x .code / 65536 + limitIn c (x .upper)) (q .upper) in
     let row = found c n (and-left there wide (u .0)) in
     let right = check-at c n row in
     let option = holds (available c (r .option)) (rw (needs-it (x .option) (r .option) (right .0)) at (and-left there wide (u .0))) in
@@ -277,7 +279,7 @@ pub agrees : (c : Config) (w : ℕ) (i : Instruction) → Holds (lawful c) → w
     Agrees (c .regsize) (entryOf w / 0x4000000) w i
 agrees c w i hc hw e = let p = read-as c w i e in rw (p .parts) (parts-agree c w hc hw (p .row) (p .option) (p .fit))
 
--- Numbers of rows, and masks
+-- Numbers of rows
 
 abbrev rows-below : List (ℕ × ℕ) → Bool
 rows-below [] = true

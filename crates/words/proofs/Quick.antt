@@ -3,7 +3,7 @@
 -- Assumes nothing.
 use Prim.Native.Nat.{ℕ, _/_, _%_, _<_}
 use mathlib.Core.Path.{_≡_, sym, ap, _∙_}
-use mathlib.Core.Bool.{true, _&&_}
+use mathlib.Core.Bool.{true}
 use mathlib.Core.List.{List}
 use native.Mathlib.Omega.{arith}
 use lib.Dec.{ltb, ltb→lt}
@@ -20,7 +20,7 @@ use Rattle.words.specs.Classes.{classOf, rowOf}
 use Rattle.words.specs.Words.{answered, partsBy, partsOf, readBy, readLawful}
 use Rattle.words.specs.Packed.{Tables, numberLent, partsLent}
 use Rattle.words.specs.Claims.{understood}
-use Rattle.words.specs.Lookup.{entryAt, entryTable, entryOf, checkAt, upperLimit, lowerLimit, uppers, lowers, Quick, belowLent, Limits}
+use Rattle.words.specs.Lookup.{entryAt, entryTable, entryOf, checkAt, upperLimit, lowerLimit, uppers, lowers, withinLimits, Quick, belowLent, Limits}
 use Rattle.words.proofs.ClassesExact.{class-at}
 use Rattle.words.proofs.Packed.{row-lent}
 use Rattle.words.proofs.Lookup.{quick, row-few}
@@ -39,22 +39,23 @@ entry-at : (n : ℕ) → n < 256 → getD entryTable n 0 ≡ entryAt n
 unfolding entryTable
 entry-at n h = value-at entryAt 256 n 0 h
 
+-- a word within the limits of its check
+
+pub within-quick : (c : Config) (w : ℕ) → withinLimits c (entryOf w % 64) w ≡ true → Quick c w
+unfolding withinLimits
+within-quick c w t =
+    let u = ltb (w / 65536 % 128) (upperLimit c (checkAt (entryOf w % 64))) in
+    let l = ltb (w % 65536) (lowerLimit c (checkAt (entryOf w % 64))) in
+    record { upper = ltb→lt _ _ (and-left u l (true-is _ t)); lower = ltb→lt _ _ (and-right u l (true-is _ t)) }
+
 module _ (c : Config) (w n : ℕ) (small : w < 0x100000000) (row : n ≡ rowOf (classOf (w / 0x800000)) (w % 0x800000)) where
   entry-here : getD entryTable n 0 ≡ entryOf w
   unfolding entryOf
   entry-here = entry-at n (rw row (row-few (w / 0x800000) (w % 0x800000) (omega arith))) ∙ ap entryAt row
 
-  passes : belowLent entryTable (uppers c) (lowers c) n w ≡
-      ltb (w / 65536 % 128) (upperLimit c (checkAt (entryOf w % 64))) && ltb (w % 65536) (lowerLimit c (checkAt (entryOf w % 64)))
-  unfolding belowLent
+  passes : belowLent entryTable (uppers c) (lowers c) n w ≡ withinLimits c (entryOf w % 64) w
+  unfolding belowLent withinLimits
   passes = rw (entry-here, upper-at c (entryOf w % 64) (omega arith), lower-at c (entryOf w % 64) (omega arith))
-
-  quick-here : belowLent entryTable (uppers c) (lowers c) n w ≡ true → Quick c w
-  quick-here t =
-      let v = true-is _ (sym passes ∙ t) in
-      let u = ltb (w / 65536 % 128) (upperLimit c (checkAt (entryOf w % 64))) in
-      let l = ltb (w % 65536) (lowerLimit c (checkAt (entryOf w % 64))) in
-      record { upper = ltb→lt _ _ (and-left u l v); lower = ltb→lt _ _ (and-right u l v) }
 
 read-zero : (c : Config) (w : ℕ) → readLawful c w .number ≡ 0 → readLawful c w ≡ understood (partsOf c w)
 unfolding readLawful readBy partsOf answered pick
@@ -73,7 +74,7 @@ module _ (cs bs ps es us ls : List ℕ) (c : Config) (w n : ℕ) (t : Tables cs 
   pub quick-lent : Holds (lawful c) → belowLent es us ls n w ≡ true → (i : Instruction) → i ≡ partsLent bs ps c n w → readingOf (Decoded i) ≡ readLawful c w
   unfolding readingOf
   quick-lent h b i e =
-      let q = quick-here c w n small row-here (rw (l .entries-right, l .uppers-right, l .lowers-right) at b) in
+      let q = within-quick c w (sym (passes c w n small row-here) ∙ (rw (l .entries-right, l .uppers-right, l .lowers-right) at b)) in
       ap understood (e ∙ parts-here) ∙ sym (quick c w h small q)
 
   -- and so is every word that can be read

@@ -82,6 +82,7 @@ most-member : (l : List ℕ) (n m : ℕ) → T (all (λ x. leb x m) l) → Membe
 most-member l n m t h = leb→le n m (all-at (λ x. leb x m) l n t h)
 
 pub record Bounds (c : Config) : Type 0 where
+  pub image : c .imsize ≤ 32768
   pub width : c .regwidth ≤ 32
   pub registers : c .regsize ≤ 128
   pub memory : c .dmsize ≤ 32768
@@ -90,6 +91,7 @@ pub bounds : (c : Config) → Holds (lawful c) → Bounds c
 unfolding lawful
 bounds c h =
     record {
+      image = h .0 .1 .1;
       width = most-member widths _ 32 tt (h .1 .0 .0);
       registers = most-member registerSizes _ 128 tt (h .1 .0 .1);
       memory = most-member dataSizes _ 32768 tt (h .1 .1 .1 .0 .1 .1 .0);
@@ -107,9 +109,9 @@ range-most c mask v b h = h
 range-most c immediate v b h = h
 range-most c read-address v b h = omega arith
 range-most c write-address v b h = omega arith
-range-most c target v b h = h
+range-most c target v b h = omega arith
 range-most c count v b h = h .0
-range-most c bank-address v b h = h
+range-most c bank-address v b h = omega arith
 range-most c short v b h = h
 
 -- what it means that no test fails

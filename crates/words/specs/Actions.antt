@@ -3,7 +3,7 @@ use Prim.Native.Nat.{ℕ}
 use mathlib.Core.List.{List, [], _∷_}
 use Rattle.words.specs.declared.Form.{Form}
 use Rattle.words.specs.declared.Operation.the-variants.{And, Or, Xor, Add, Addc, Sub, Subc, Subs, Shl, Shr, Shra, Rotl, Rotr, Shl16, Abs, Clz, Bst, Bld, Blds}
-use Rattle.words.specs.Parts.{Part, unused, register, unit, immediate, read-address, write-address, count, bank-address}
+use Rattle.words.specs.Parts.{Part, unused, register, unit, immediate, read-address, write-address, target, count, bank-address}
 use Rattle.words.specs.Parts.{Option, always, mult, level1, level2, level2-memory, memory, ports, rmw, banks, spr, never}
 use Rattle.words.specs.Kinds.{from-register, literal, counted}
 use Rattle.words.specs.Kinds.{Condition}
@@ -108,54 +108,49 @@ actions =
     action (λ f c. enter-special) 0 ∷  -- SPR-ON
     []
 
--- what a place of a word may hold beside the code
-pub data Side : Type 0 where
-  anything : Side
-  part : Part → Side
-
 -- A check: the code in bits 22-0, what bits 22-16 and 15-0 hold beside it, the option, and whether there is a byte number.
 pub record Check : Type 0 where
   pub code : ℕ
-  pub upper : Side
-  pub lower : Side
+  pub upper : Part
+  pub lower : Part
   pub option : Option
   pub numbered : ℕ
 
-abbrev pub check : ℕ → Side → Side → Option → ℕ → Check
+abbrev pub check : ℕ → Part → Part → Option → ℕ → Check
 check code upper lower option numbered =
     record { code = code; upper = upper; lower = lower; option = option; numbered = numbered }
 
 -- the first refuses everything
 unfoldable pub checks : List Check
 checks =
-    check 0 (part unused) (part unused) never 0 ∷
-    check 0x0 (part register) (part register) always 0 ∷
-    check 0x0 (part register) (part immediate) always 0 ∷
-    check 0x0 (part register) (part register) mult 0 ∷
-    check 0x0 (part register) (part immediate) mult 0 ∷
-    check 0x0 (part register) (part register) level1 0 ∷
-    check 0x0 (part register) (part count) always 0 ∷
-    check 0x100 (part register) (part register) level2 1 ∷
-    check 0x200 (part register) (part register) level2 1 ∷
-    check 0x600 (part register) (part register) level2 1 ∷
-    check 0x1400 (part register) (part register) level2 0 ∷
-    check 0x1800 (part register) (part unused) level2-memory 0 ∷
-    check 0x1c00 (part unused) (part register) level2-memory 0 ∷
-    check 0x0 (part register) (part register) memory 0 ∷
-    check 0x0 (part register) (part read-address) memory 0 ∷
-    check 0x0 (part register) (part write-address) memory 0 ∷
-    check 0x0 (part register) (part register) ports 0 ∷
-    check 0x8000 (part register) (part register) rmw 0 ∷
-    check 0x0 (part register) (part immediate) ports 0 ∷
-    check 0x0 anything anything always 0 ∷
-    check 0x0 anything anything ports 0 ∷
-    check 0x0 (part register) (part unused) always 0 ∷
-    check 0x0 (part register) (part unused) ports 0 ∷
-    check 0x0 (part unit) (part bank-address) banks 0 ∷
-    check 0x0 (part unused) (part unused) always 0 ∷
-    check 0x10000 (part unused) (part unused) banks 0 ∷
-    check 0x40000 (part unused) (part unused) spr 0 ∷
-    check 0x50000 (part unused) (part unused) spr 0 ∷
+    check 0 unused unused never 0 ∷
+    check 0x0 register register always 0 ∷
+    check 0x0 register immediate always 0 ∷
+    check 0x0 register register mult 0 ∷
+    check 0x0 register immediate mult 0 ∷
+    check 0x0 register register level1 0 ∷
+    check 0x0 register count always 0 ∷
+    check 0x100 register register level2 1 ∷
+    check 0x200 register register level2 1 ∷
+    check 0x600 register register level2 1 ∷
+    check 0x1400 register register level2 0 ∷
+    check 0x1800 register unused level2-memory 0 ∷
+    check 0x1c00 unused register level2-memory 0 ∷
+    check 0x0 register register memory 0 ∷
+    check 0x0 register read-address memory 0 ∷
+    check 0x0 register write-address memory 0 ∷
+    check 0x0 register register ports 0 ∷
+    check 0x8000 register register rmw 0 ∷
+    check 0x0 register immediate ports 0 ∷
+    check 0x0 unused target always 0 ∷
+    check 0x0 unused target ports 0 ∷
+    check 0x0 register unused always 0 ∷
+    check 0x0 register unused ports 0 ∷
+    check 0x0 unit bank-address banks 0 ∷
+    check 0x0 unused unused always 0 ∷
+    check 0x10000 unused unused banks 0 ∷
+    check 0x40000 unused unused spr 0 ∷
+    check 0x50000 unused unused spr 0 ∷
     []
 
 -- a row's check, its condition, the form of its immediate and its action, as digits of one number

@@ -1,7 +1,7 @@
 -- Looking a word up by lent tables: the entry of its row, the limits of the entry's check, and the parts that an action reads. This is how code goes about
 -- a step, not what a reader must believe: proofs/Lookup.antt ties each of these to Rows, Words and Facts.
-use Prim.Native.Nat.{ℕ, _+_, _-_, _*_, _/_, _%_, _<_}
-use mathlib.Core.Bool.{Bool, _&&_, _||_}
+use Prim.Native.Nat.{ℕ, _+_, _/_, _%_, _<_}
+use mathlib.Core.Bool.{Bool, _&&_}
 use mathlib.Core.Path.{_≡_}
 use mathlib.Core.List.{List}
 use lib.Dec.{T, eqb, ltb}
@@ -11,12 +11,12 @@ use Rattle.laws.specs.Test.{test, imp}
 use Rattle.laws.specs.Table.{values}
 use Rattle.words.specs.declared.Config.{Config}
 use Rattle.words.specs.declared.Instruction.{Instruction}
-use Rattle.words.specs.Parts.{unused, count, never, is, available}
+use Rattle.words.specs.Parts.{Part, unused, count, never, is, available}
 use Rattle.words.specs.Kinds.{Kind, unsupported}
 use Rattle.words.specs.Classes.{classOf, rowOf}
 use Rattle.words.specs.Codes.{formAt, conditionAt}
 use Rattle.words.specs.Packed.{limitOf}
-use Rattle.words.specs.Actions.{flag′, destination′, source′, number′, value′, target′, unit′, Action, action, actions, Side, anything, part, Check, check, checks, entries}
+use Rattle.words.specs.Actions.{flag′, destination′, source′, number′, value′, target′, unit′, Action, action, actions, Check, check, checks, entries}
 
 -- Entries
 
@@ -44,26 +44,24 @@ entryKind e = actionKind (e / 0x4000000) e
 -- Limits
 
 unfoldable pub checkAt : ℕ → Check
-checkAt t = getD checks t (check 0 (part unused) (part unused) never 0)
+checkAt t = getD checks t (check 0 unused unused never 0)
 
--- what a side stays below; `all` is how many values its place has. At level 0 a shift count is left to the exact verdict.
-unfoldable pub limitIn : Config → ℕ → Side → ℕ
-limitIn c all anything = all
-limitIn c all (part p) = pick (is p count && eqb (c .alulevel) 0) 0 (limitOf c p)
+-- what a part stays below; at level 0 a shift count is left to the exact verdict
+unfoldable pub limitIn : Config → Part → ℕ
+limitIn c p = pick (is p count && eqb (c .alulevel) 0) 0 (limitOf c p)
 
 -- what bits 22-16 of a word stay below by check k: 0, so that no word passes, where its option is off, or a byte number is left to the exact verdict
 unfoldable pub upperLimit : Config → Check → ℕ
 upperLimit c k =
-    pick (test (available c (k .option)) && imp (eqb (k .numbered) 1) (eqb (c .regwidth) 32)) (k .code / 65536 + limitIn c 128 (k .upper)) 0
+    pick (test (available c (k .option)) && imp (eqb (k .numbered) 1) (eqb (c .regwidth) 32)) (k .code / 65536 + limitIn c (k .upper)) 0
 
 -- what bits 15-0 stay below
 unfoldable pub lowerLimit : Config → Check → ℕ
-lowerLimit c k = k .code % 65536 + limitIn c 65536 (k .lower)
+lowerLimit c k = k .code % 65536 + limitIn c (k .lower)
 
--- A word that has none of these bits is below `upper` in bits 22-16 and below `lower` in bits 15-0; where a limit is 0 these are all bits, and only word 0,
--- whose limits are not 0, has none.
-unfoldable pub maskOf : ℕ → ℕ → ℕ
-maskOf upper lower = pick (eqb upper 0 || eqb lower 0) 0xffffffff (65536 * (128 - upper) + (65536 - lower))
+-- whether word w is below the two limits of check t
+unfoldable pub withinLimits : Config → ℕ → ℕ → Bool
+withinLimits c t w = ltb (w / 65536 % 128) (upperLimit c (checkAt t)) && ltb (w % 65536) (lowerLimit c (checkAt t))
 
 unfoldable pub uppers : Config → List ℕ
 uppers c = values (λ t. upperLimit c (checkAt t)) 0 64

@@ -10,11 +10,11 @@ use Rattle.laws.specs.Choice.{pick}
 use Rattle.laws.specs.First.{first-failing}
 use Rattle.laws.specs.Lists.{column}
 use Rattle.laws.specs.Table.{values}
-use Rattle.laws.specs.Test.{Test, less, same, yes?, if?, _and_, test}
+use Rattle.laws.specs.Test.{Test, less, most, same, isnt, among, each, yes?, no?, if?, _and_, _or_, test}
 use Rattle.words.specs.declared.Config.{Config}
 use Rattle.words.specs.declared.Instruction.{Instruction}
 use Rattle.words.specs.declared.Facts.{Facts}
-use Rattle.words.specs.Parts.{Part, unused, flag, byte, coprocessor, register, unit, mask, immediate, read-address, write-address, target, count, bank-address, short, available}
+use Rattle.words.specs.Parts.{Part, count, inRange, available}
 use Rattle.words.specs.Kinds.{Kind, marksOf}
 use Rattle.words.specs.Codes.{partCode, partAt, optionCode, optionAt, weights}
 use Rattle.words.specs.Numbers.{CLZ}
@@ -76,22 +76,23 @@ factsIn p =
 abbrev pub noPacked : ℕ
 noPacked = 0xa00000
 
+-- what a number stays below where a test holds: of the tests that ranges are made of
+abbrev pub boundIn : Test → ℕ
+boundIn (less v n) = n
+boundIn (same v n) = n + 1
+boundIn (p and q) = boundIn p
+boundIn (most v n) = 0
+boundIn (isnt v n) = 0
+boundIn (among v l) = 0
+boundIn (each n l) = 0
+boundIn (yes? b) = 0
+boundIn (no? b) = 0
+boundIn (if? b p) = 0
+boundIn (p or q) = 0
+
 -- what a part in its range stays below
 unfoldable pub limitOf : Config → Part → ℕ
-limitOf c unused = 1
-limitOf c flag = 2
-limitOf c byte = c .regwidth / 8
-limitOf c coprocessor = 32
-limitOf c register = c .regsize
-limitOf c unit = 64
-limitOf c mask = 16
-limitOf c immediate = 65536
-limitOf c read-address = c .dmsize
-limitOf c write-address = c .dmsize
-limitOf c target = 0x800000
-limitOf c count = 16
-limitOf c bank-address = 65536
-limitOf c short = 256
+limitOf c p = boundIn (inRange c p 0)
 
 -- the same by the parts' numbers
 unfoldable pub limitTable : Config → List ℕ

@@ -28,7 +28,8 @@ abbrev pub is : Part → Part → Bool
 is p q = decided (Part-discrete p q)
 
 -- "register ≥ REG_SIZE, direct data address ≥ DM_SIZE, immediate shift count out of range, byte number with 8N+7 ≥ W, WP unit above 63, an unused bit or
--- part not zero, or a value to be written too wide for its field" (7)
+-- part not zero, or a value to be written too wide for its field" (7); K2: "A direct JMP or JSR target at or above IM_SIZE is to be refused when the word is
+-- read or written, and so is a JSRWP address."
 unfoldable pub inRange : Config → Part → ℕ → Test
 inRange c unused v = same v 0
 inRange c flag v = less v 2
@@ -40,9 +41,9 @@ inRange c mask v = less v 16
 inRange c immediate v = less v 65536
 inRange c read-address v = less v (c .dmsize)
 inRange c write-address v = less v (c .dmsize)
-inRange c target v = less v 0x800000
+inRange c target v = less v (c .imsize)
 inRange c count v = less v 16 and if? (eqb (c .alulevel) 0) (same v 1)  -- "immediate, 0 to 15, at level 0 only 1"
-inRange c bank-address v = less v 65536
+inRange c bank-address v = less v (c .imsize)
 inRange c short v = less v 256
 
 -- the option that a row needs

@@ -1,10 +1,10 @@
 // Looking a word up by lent tables: the entry of its row, and the limits of the entry's check (specs/Lookup.antt). A caller that reads many words
 // takes them once.
 ghost use mathlib.Core.Path.{_≡_};
-ghost use Rattle.laws.specs.Choice.{pick as choice};
 ghost use Rattle.words.specs.Lookup.{entryTable, uppers, lowers};
 use crate::Config;
 use crate::columns::ENTRIES;
+use crate::limits::limits_at;
 
 // The entry of each row; past the rows none.
 pub fn entry_table() -> [u32; 256]
@@ -13,60 +13,39 @@ pub fn entry_table() -> [u32; 256]
     ENTRIES
 }
 
-pub fn pick(b: bool, x: u64, y: u64) -> u64
-    ensures { λ r. ⌜ r ≡ choice b x y ⌝ }
-{
-    if b { x } else { y }
-}
-
 // What bits 22-16 of a word stay below, by its check: 0 where the option is off.
 pub fn upper_limits(c: Config) -> [u64; 64]
     ensures { λ r. ⌜ r ≡ uppers c ⌝ }
 {
-    let size = c.regsize as u64;
-    let mult = pick(c.alumult == 1, size, 0);
-    let level1 = pick(0 < c.alulevel, size, 0);
-    let bytes = pick((1 < c.alulevel) & (c.regwidth == 32), size, 0);
-    let level2 = pick(1 < c.alulevel, size, 0);
-    let index = pick((1 < c.alulevel) & (0 < c.dmsize), size, 0);
-    let loads = pick((1 < c.alulevel) & (0 < c.dmsize), 1, 0);
-    let memory = pick(0 < c.dmsize, size, 0);
-    let ports = pick(c.iopif == 1, size, 0);
-    let modify = pick(c.ioprmw == 1, size, 0);
-    let branch = pick(c.iopif == 1, 128, 0);
-    let unit = pick(c.regsize < c.rmsize, 64, 0);
-    let leave = pick(c.regsize < c.rmsize, 2, 0);
-    let special_off = pick(c.aluspr == 1, 5, 0);
-    let special_on = pick(c.aluspr == 1, 6, 0);
     [
-        0,
-        size,
-        size,
-        mult,
-        mult,
-        level1,
-        size,
-        bytes,
-        bytes,
-        bytes,
-        level2,
-        index,
-        loads,
-        memory,
-        memory,
-        memory,
-        ports,
-        modify,
-        ports,
-        128,
-        branch,
-        size,
-        ports,
-        unit,
-        1,
-        leave,
-        special_off,
-        special_on,
+        limits_at(c, 0).upper,
+        limits_at(c, 1).upper,
+        limits_at(c, 2).upper,
+        limits_at(c, 3).upper,
+        limits_at(c, 4).upper,
+        limits_at(c, 5).upper,
+        limits_at(c, 6).upper,
+        limits_at(c, 7).upper,
+        limits_at(c, 8).upper,
+        limits_at(c, 9).upper,
+        limits_at(c, 10).upper,
+        limits_at(c, 11).upper,
+        limits_at(c, 12).upper,
+        limits_at(c, 13).upper,
+        limits_at(c, 14).upper,
+        limits_at(c, 15).upper,
+        limits_at(c, 16).upper,
+        limits_at(c, 17).upper,
+        limits_at(c, 18).upper,
+        limits_at(c, 19).upper,
+        limits_at(c, 20).upper,
+        limits_at(c, 21).upper,
+        limits_at(c, 22).upper,
+        limits_at(c, 23).upper,
+        limits_at(c, 24).upper,
+        limits_at(c, 25).upper,
+        limits_at(c, 26).upper,
+        limits_at(c, 27).upper,
         0,
         0,
         0,
@@ -110,38 +89,35 @@ pub fn upper_limits(c: Config) -> [u64; 64]
 pub fn lower_limits(c: Config) -> [u64; 64]
     ensures { λ r. ⌜ r ≡ lowers c ⌝ }
 {
-    let size = c.regsize as u64;
-    let data = c.dmsize as u64;
-    let count = pick(c.alulevel == 0, 0, 16);
     [
-        1,
-        size,
-        65536,
-        size,
-        65536,
-        size,
-        count,
-        0x100 + size,
-        0x200 + size,
-        0x600 + size,
-        0x1400 + size,
-        0x1801,
-        0x1c00 + size,
-        size,
-        data,
-        data,
-        size,
-        0x8000 + size,
-        65536,
-        65536,
-        65536,
-        1,
-        1,
-        65536,
-        1,
-        1,
-        1,
-        1,
+        limits_at(c, 0).lower,
+        limits_at(c, 1).lower,
+        limits_at(c, 2).lower,
+        limits_at(c, 3).lower,
+        limits_at(c, 4).lower,
+        limits_at(c, 5).lower,
+        limits_at(c, 6).lower,
+        limits_at(c, 7).lower,
+        limits_at(c, 8).lower,
+        limits_at(c, 9).lower,
+        limits_at(c, 10).lower,
+        limits_at(c, 11).lower,
+        limits_at(c, 12).lower,
+        limits_at(c, 13).lower,
+        limits_at(c, 14).lower,
+        limits_at(c, 15).lower,
+        limits_at(c, 16).lower,
+        limits_at(c, 17).lower,
+        limits_at(c, 18).lower,
+        limits_at(c, 19).lower,
+        limits_at(c, 20).lower,
+        limits_at(c, 21).lower,
+        limits_at(c, 22).lower,
+        limits_at(c, 23).lower,
+        limits_at(c, 24).lower,
+        limits_at(c, 25).lower,
+        limits_at(c, 26).lower,
+        limits_at(c, 27).lower,
         1,
         1,
         1,

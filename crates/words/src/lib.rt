@@ -12,7 +12,7 @@ mod decode;
 mod encode;
 mod entries;
 pub mod layout;
-mod masks;
+mod limits;
 mod meaning;
 mod numbers;
 mod rows;
@@ -31,7 +31,7 @@ pub use encode::write_word_lent;
 pub use entries::entry_table;
 pub use entries::lower_limits;
 pub use entries::upper_limits;
-pub use masks::mask_for;
+pub use limits::within_limits;
 pub use meaning::facts_in;
 pub use meaning::packed_lent;
 pub use tables::base_table;
@@ -113,6 +113,12 @@ struct Fields {
     pub upper: u32,
     pub lower: u32,
     pub value: u32,
+}
+
+// What a word stays below by its check: bits 22-16, and bits 15-0.
+struct WordLimits {
+    pub upper: u64,
+    pub lower: u64,
 }
 
 // Document 01's numbers 1, 5, 6 and 7.

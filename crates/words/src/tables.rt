@@ -66,9 +66,9 @@ pub fn limit_table(c: Config) -> [u32; 16]
         layout::LOWER_VALUES, // immediate
         c.dmsize, // address that is read
         c.dmsize, // address that is written
-        layout::TARGETS, // target
+        c.imsize, // target
         16, // shift count
-        layout::LOWER_VALUES, // JSRWP's address
+        c.imsize, // JSRWP's address
         256, // short immediate
         256,
         256,

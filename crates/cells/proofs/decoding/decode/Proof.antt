@@ -10,7 +10,7 @@ filled-requires : tie.Need-filled-requires
 filled-requires c κs = rw (c .before .before .template .ensures) (template-cost _)
 
 returns : tie.Need-returns
-returns c = quick-cell (c .before .before .before .before .before .args .c) (c .before .before .before .before .before .args .w) _ _ _ _ (c .before .before .before .before .before .fits .w .fits) (c .before .before .before .before .row-of-word .ensures) (c .before .before .before .template .ensures) (c .before .before .mask-for .ensures) (c .before .if1 .taken) (c .filled .ensures)
+returns c = quick-cell (c .before .before .before .before .before .args .c) (c .before .before .before .before .before .args .w) _ _ _ _ (c .before .before .before .before .before .fits .w .fits) (c .before .before .before .before .row-of-word .ensures) (c .before .before .before .template .ensures) (c .before .before .within-limits .ensures) (c .before .if1 .taken) (c .filled .ensures)
 
 filled-requires-2 : tie.Need-filled-requires-2
 filled-requires-2 c κs = rw (c .before .before .before .before .before .template .ensures) (template-cost _)

@@ -1,7 +1,7 @@
--- `words::entries::pick` meets its contract. Assumes nothing.
+-- `words::limits::pick` meets its contract. Assumes nothing.
 use Rattle.laws.specs.Choice.{pick}
-use Rattle.words.proofs.entries.pick.Statement.{statement}
-use Rattle.words.proofs.entries.pick.Tie as tie
+use Rattle.words.proofs.limits.pick.Statement.{statement}
+use Rattle.words.proofs.limits.pick.Tie as tie
 
 returns : tie.Need-returns
 unfolding pick
