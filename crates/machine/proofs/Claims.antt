@@ -7,6 +7,7 @@ use Rattle.state.specs.Step.{Outcome, refused, stepOf}
 use Rattle.state.specs.Run.{ended, runCall}
 use Rattle.state.proofs.Unchanged as unchanged
 use Rattle.state.proofs.StaysValid.{step-valid}
+use Rattle.state.proofs.Leaving.{leaves-image}
 use Rattle.state.proofs.Run.{run-cycles}
 use Rattle.state.proofs.Calls.{run-by-steps, run-splits}
 use Rattle.machine.specs.Stepping.{End, endOf}
@@ -19,6 +20,7 @@ steps e s o q =
       refused-stays = unchanged.refused-stays;
       cells-stay = unchanged.cells-stay;
       stays-valid = step-valid;
+      leaves-image = leaves-image;
     }
 
 pub runs : (budget : ℕ) (e : Env) (s : State) (x : End) → x ≡ endOf (runCall budget e s) → Runs budget e s x

@@ -5,7 +5,7 @@ use lib.ListN.{length}
 use Rattle.state.specs.State.{Env, State}
 use Rattle.state.specs.Step.{Outcome, refused, stepOf}
 use Rattle.state.specs.Run.{ended, runCall}
-use Rattle.state.specs.Claims.{RefusedStays, CellsStay, StepValid, RunBySteps, RunSplits, RunCycles}
+use Rattle.state.specs.Claims.{RefusedStays, CellsStay, StepValid, LeavesImage, RunBySteps, RunSplits, RunCycles}
 use Rattle.machine.specs.Stepping.{End, endOf}
 
 -- `step` from s leaves and answers o
@@ -14,6 +14,7 @@ pub record Steps (e : Env) (s : State) (o : Outcome) : Type 0 where
   pub refused-stays : RefusedStays
   pub cells-stay : CellsStay
   pub stays-valid : StepValid
+  pub leaves-image : LeavesImage
 
 -- `step_lent` does the same where the lent return stack is 63 cells long; else it answers 2 and leaves all as it was
 pub record StepsLent (e : Env) (s : State) (o : Outcome) : Type 0 where

@@ -7,5 +7,6 @@ pub mod Cores
 pub mod Step
 pub mod Plans
 pub mod StaysValid
+pub mod Leaving
 pub mod Calls
 pub mod Lengths

@@ -1,10 +1,13 @@
 -- What is proved of a step and a run, each said once: contracts cite these.
 use Prim.Native.Nat.{ℕ, suc, _+_, _*_, _≤_}
 use mathlib.Core.Path.{_≡_}
+use mathlib.Core.Logic.{_⊎_}
 use mathlib.Core.List.{[], _∷_, _++_}
 use lib.ListN.{getD}
 use Rattle.laws.specs.Test.{Holds}
 use Rattle.laws.specs.First.{first-failing, Obeyed}
+use Rattle.words.specs.Kinds.{Condition}
+use Rattle.words.specs.Kinds.{Kind, jump-register, branch-register, call-register, ret, ret-constant, leave-bank}
 use Rattle.state.specs.State.{Env, State}
 use Rattle.state.specs.Ranges.{guards, budgetFits}
 use Rattle.state.specs.Operands.{viewOf}
@@ -33,6 +36,21 @@ destinationAt e s = destinationOf (viewOf e s) (partsAt e s) (kindAt e s)
 pub record CellsStay : Type 0 where
   pub registers : (e : Env) (s : State) (j : ℕ) → (destinationAt e s ≡ register-cell j → ⊥) → getD (stepOf e s .state .registers) j 0 ≡ getD (s .registers) j 0
   pub memory : (e : Env) (s : State) (j : ℕ) → (destinationAt e s ≡ data-cell j → ⊥) → getD (stepOf e s .state .memory) j 0 ≡ getD (s .memory) j 0
+
+-- the kinds that go on elsewhere than at the next word or at an address in the word: JMP @, JSR @, RET, RLD, RETWP
+pub data Elsewhere : Kind → Type 0 where
+  jumping : Elsewhere jump-register
+  branching : {k : Condition} → Elsewhere (branch-register k)
+  calling : Elsewhere call-register
+  returning : Elsewhere ret
+  loading : Elsewhere ret-constant
+  leaving : Elsewhere leave-bank
+
+-- K2, "Stop 4 remains": where a step leaves PC outside the image, so that the next is stopped by 4, it was one of those, or went on from the last word. A
+-- direct target or JSRWP address outside is refused where it stands.
+abbrev pub LeavesImage : Type 0
+LeavesImage = (e : Env) (s : State) → stepOf e s .number ≡ 0 → e .config .imsize ≤ stepOf e s .state .core .pc →
+    Elsewhere (kindAt e s) ⊎ (stepOf e s .state .core .pc ≡ s .core .pc + 1)
 
 -- r is the step o from s and then the run q
 pub record Follows (s : State) (o : Outcome) (q r : Run) : Type 0 where
