@@ -64,6 +64,7 @@ static inline uint32_t clz16(uint32_t half) { return half == 0 ? 16 : (uint32_t)
 #define SHIFT_LEFT(count) uint32_t a = DEST, x = a << (count) & mask; DEST = x; SET_ZN(!(a & msb), (x & msb) != 0)
 #define SIGNED(a) ((int32_t)((a) << (32 - width)) >> (32 - width))
 #define COUNT_TEST do { TEST(one_bad); if (level == 0 ? (w & 0xffff) != 1 : (w & 0xfff0) != 0) STOP(7); } while (0)
+#define TARGET_TEST(target) do { if ((target) >= im_size) STOP(7); } while (0)
 #define NEED(option) do { if (!(option)) STOP(6); } while (0)
 
 void plain_run(const struct plain_config *c, const uint32_t *image, const uint32_t *inputs, size_t inputs_len,
@@ -217,7 +218,7 @@ void plain_run(const struct plain_config *c, const uint32_t *image, const uint32
         case PORT_S: { NEED(c->iop_if); TEST(one_bad); PORT_WRITE(IMM_S); } break;
         case PORT_U: { NEED(c->iop_if); TEST(one_bad); PORT_WRITE(IMM_U); } break;
         case PORT_H: { NEED(c->iop_if); TEST(one_bad); PORT_WRITE(IMM_H); } break;
-        case JMP: next = w & TARGET_BITS; break;
+        case JMP: next = w & TARGET_BITS; TARGET_TEST(next); break;
         case JMP_IF: case JMP_R: {
             const uint32_t condition = w >> 23 & 15;
             uint32_t taken = 1;
@@ -232,13 +233,15 @@ void plain_run(const struct plain_config *c, const uint32_t *image, const uint32
             if (plain_kind_of(w) == JMP_R) {
                 TEST(one_bad | 0xffff);
                 if (taken) next = DEST & TARGET_BITS;
-            } else if (taken) {
-                next = w & TARGET_BITS;
+            } else {
+                TARGET_TEST(w & TARGET_BITS);
+                if (taken) next = w & TARGET_BITS;
             }
         } break;
-        case JMP_BIO: NEED(c->iop_if); break;
+        case JMP_BIO: NEED(c->iop_if); TARGET_TEST(w & TARGET_BITS); break;
         case JMP_R_BIO: NEED(c->iop_if); TEST(one_bad | 0xffff); break;
         case JSR:
+            TARGET_TEST(w & TARGET_BITS);
             if (m->depth >= limit) STOP(10);
             m->stack[m->depth++] = next; next = w & TARGET_BITS;
             break;
@@ -257,6 +260,7 @@ void plain_run(const struct plain_config *c, const uint32_t *image, const uint32
             NEED(banks);
             const uint32_t unit = w >> 16 & 0x7f;
             if (unit > 63) STOP(7);
+            TARGET_TEST(w & 0xffff);
             if (unit * 16 + c->reg_size > c->rm_size) STOP(12);
             r = registers + unit * 16;
             r[0] = (m->wp >> 4) << 26 | n << 21 | z << 20 | m->imask << 16 | next;

@@ -96,7 +96,7 @@ static inline uint32_t reg(const uint8_t *p) { return p[0] == '%' ? two(p + 1) :
 
 #define LABELS 1024
 #define SLOTS 2048
-#define BEYOND 0x800000u /* no target */
+#define BEYOND 0x800000u /* past every image */
 
 /* Letters in five bits each, 1 to 26, so that 0 is no label. */
 struct labels {
@@ -133,7 +133,7 @@ struct source {
     const uint8_t *text, *end;
     uint32_t off;       /* what is off */
     uint32_t high;      /* the bits of a register's number that must be zero */
-    uint32_t dm_size, reg_width, alu_level;
+    uint32_t im_size, dm_size, reg_width, alu_level;
     struct labels labels;
 };
 
@@ -287,7 +287,7 @@ static inline uint32_t instruction(const struct source *s, const uint8_t *p, con
         } else {
             b = target(s, o, end, &after, &number);
             if (number == 26) return 26;
-            past = b >= BEYOND;
+            past = b >= s->im_size;
         }
         if (name->shape == JUMP) {
             const uint32_t code = condition(after, (size_t)(end - after));
@@ -308,7 +308,7 @@ static inline uint32_t instruction(const struct source *s, const uint8_t *p, con
         if (length != 8 || o[4] != ',') return 26;
         a = three(o + 5), b = four(o);
         if (WRONG(a | b) || a % 16 != 0) return 26;
-        past = a >= 0x400;
+        past = (a >= 0x400) | (b >= s->im_size);
         a /= 16;
         break;
     }
@@ -391,6 +391,7 @@ uint32_t plain_assemble(const struct plain_config *c, const uint8_t *text, size_
             (c->dm_size ? 0 : MEMORY) | (c->iop_if ? 0 : PORT) | (c->iop_rmw ? 0 : MODIFY) |
             (c->rm_size > c->reg_size ? 0 : BANKS) | (c->alu_spr ? 0 : SPECIAL);
     s.high = ~(c->reg_size - 1);
+    s.im_size = c->im_size;
     s.dm_size = c->dm_size;
     s.reg_width = c->reg_width;
     s.alu_level = c->alu_level;

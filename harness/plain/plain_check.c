@@ -26,7 +26,8 @@ static const uint8_t entries[256] = {
     [MOV_TO_A] = DATA_ONE | ON, [JMP] = FREE | TO, [JMP_IF] = FREE | ON | TO, [JMP_BIO] = LOOK | ON | TO, [JSR] = FREE | ON | TO | CALLED,
 };
 
-/* The bits that must be zero, by group. A word that has one of them, or whose group is only looked at, is for plain_verdict to decide. */
+/* The bits that must be zero, by group. A word that has one of them, or whose group is only looked at, is for plain_verdict to decide; a
+   direct target is asked for where control goes. */
 static void masks_of(const struct plain_config *c, uint32_t masks[GROUPS]) {
     const uint32_t high = ~(c->reg_size - 1) & 0x7f, one = high << 16, two = high << 16 | 0xff80 | high;
     for (int i = 0; i < GROUPS; i++) masks[i] = ~0u;
@@ -80,6 +81,7 @@ static uint32_t broken_rule(const struct plain_config *c, const uint32_t *masks,
     const uint32_t entry = entries[kind], ways = entry & (ON | TO | CALLED);
     if ((w & masks[entry & 15]) != 0 && plain_verdict(c, w) != 0) return 3;
     if (ways != 0 && goes_well(c, sheet, here, ways, next, target)) return 0;
+    if ((ways & TO) != 0 && target >= c->im_size) return 3;
     switch (kind) {
     case JMP_R: case JMP_R_BIO: case JSR_R: case JSRWP: return 3;
     case JSR: return broken_by(c, sheet, here, w, target, next, 1);

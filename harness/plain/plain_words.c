@@ -2,6 +2,9 @@
 #include "plain.h"
 #include "plain_kinds.h"
 
+/* A direct target must lie in the image. */
+static inline uint32_t within(const struct plain_config *c, uint32_t target) { return target < c->im_size ? 0 : 7; }
+
 uint32_t plain_verdict(const struct plain_config *c, uint32_t w) {
     const uint32_t high = ~(c->reg_size - 1) & 0x7f, one_bad = high << 16, two_bad = high << 16 | 0xff80 | high;
     const uint32_t level = c->alu_level, banks = c->rm_size > c->reg_size, kind = plain_kind_of(w);
@@ -44,15 +47,15 @@ uint32_t plain_verdict(const struct plain_config *c, uint32_t w) {
     case PORT_S: case PORT_U: case PORT_H:
         if (!c->iop_if) return 6;
         return w & one_bad ? 7 : 0;
-    case JMP: case JMP_IF: case JSR: return 0;
-    case JMP_BIO: return c->iop_if ? 0 : 6;
+    case JMP: case JMP_IF: case JSR: return within(c, w & 0x7fffff);
+    case JMP_BIO: return c->iop_if ? within(c, w & 0x7fffff) : 6;
     case JMP_R_BIO:
         if (!c->iop_if) return 6;
         return w & (one_bad | 0xffff) ? 7 : 0;
     case JMP_R: case JSR_R: return w & (one_bad | 0xffff) ? 7 : 0;
     case JSRWP:
         if (!banks) return 6;
-        return w & 0x400000 ? 7 : 0;
+        return w & 0x400000 ? 7 : within(c, w & 0xffff);
     case CONTROL:
         switch (w >> 16 & 0x7f) {
         case 0: break;

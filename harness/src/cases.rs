@@ -4,6 +4,7 @@ use crate::compare::Pair;
 use crate::generate::configs::{self, Size};
 use crate::generate::{files, programs, states, words};
 use crate::model::config::Config;
+use crate::model::words::assemble;
 use crate::random::Random;
 use crate::{runs, texts};
 
@@ -127,6 +128,7 @@ fn image(r: &mut Random, c: &Config, special: bool) -> Vec<u32> {
         .map(|_| match r.below(10) {
             _ if special && r.chance(60) => words::special(r, c),
             0 | 1 => words::any(r, c),
+            2 if r.chance(50) => assemble(&words::edge(r, c)),
             _ => words::readable(r, c),
         })
         .collect()

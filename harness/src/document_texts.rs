@@ -3,9 +3,10 @@
 use crate::calls::Calls;
 use crate::generate::sources::numbered_label;
 
-/// W = 32, 16 registers in four banks, 32 data cells, level 2, every option on.
-const CONFIG: [u32; 19] = [64, 32, 16, 64, 16, 32, 0, 2, 1, 1, 1, 1, 0, 0, 0, 0, 0, 32, 0];
+/// The largest image, W = 32, 16 registers in four banks, 32 data cells, level 2, every option on.
+const CONFIG: [u32; 19] = [32_768, 32, 16, 64, 16, 32, 0, 2, 1, 1, 1, 1, 0, 0, 0, 0, 0, 32, 0];
 /// The places of generics in it.
+const IM_SIZE: usize = 0;
 const REG_WIDTH: usize = 1;
 const RM_SIZE: usize = 3;
 const DM_SIZE: usize = 5;
@@ -28,9 +29,9 @@ const PASSES: [(&str, &[u32]); 20] = [
     ("JMP loop\nloop:", &[0xc000_0001]),
     ("loop: JMP loop,NZ\n", &[0xc100_0000]),
     ("one:\ntwo:\nRET\n\nthree: RET\nJSR three\nJSR two", &[0xf000_0000, 0xf000_0000, 0xf080_0001, 0xf080_0000]),
-    ("RET\nabcdeg: JMP abcdeg\nJMP 00abcd\n", &[0xf000_0000, 0xc000_0001, 0xc000_abcd]),
-    ("JMP 7fffff\nJMP 0bcdef", &[0xc07f_ffff, 0xc00b_cdef]),
-    ("JSRWP 0040,020\nJSRWP ffff,3f0", &[0xf102_0040, 0xf13f_ffff]),
+    ("RET\nabcdeg: JMP abcdeg\nJMP 007bcd\n", &[0xf000_0000, 0xc000_0001, 0xc000_7bcd]),
+    ("JMP 007fff\nJMP 006def", &[0xc000_7fff, 0xc000_6def]),
+    ("JSRWP 0040,020\nJSRWP 7fff,3f0", &[0xf102_0040, 0xf13f_7fff]),
     ("BST3 %00,%01\nBLDS2 %0f,%01,S", &[0x9d80_0101, 0x990f_0601]),
     ("MOV &001f,%0f\nMOV %0f,&001f\nMOV @%01,%02", &[0xac0f_001f, 0xa18f_001f, 0xa801_0002]),
     ("MUL %00,%01,S\nMUL %00,<ffff", &[0x7000_0001, 0x7780_ffff]),
@@ -42,7 +43,7 @@ const PASSES: [(&str, &[u32]); 20] = [
 ];
 
 /// Text, number and line.
-const REFUSALS: [(&str, u32, u64); 69] = [
+const REFUSALS: [(&str, u32, u64); 72] = [
     // The form of a line.
     ("FOO", 26, 1),
     ("RET\n\nret", 26, 3),
@@ -110,6 +111,9 @@ const REFUSALS: [(&str, u32, u64); 69] = [
     ("SHR %00,#0010", 7, 1),
     ("MOV %00,&0020", 7, 1),
     ("JSRWP 0040,400", 7, 1),
+    ("JMP 008000", 7, 1),
+    ("JSR 7fffff", 7, 1),
+    ("JSRWP 8000,020", 7, 1),
     // Which comes first.
     ("JMP 800000\nFOO", 7, 1),
     ("JMP nowhere\nFOO", 25, 1),
@@ -124,8 +128,16 @@ const REFUSALS: [(&str, u32, u64); 69] = [
 /// Generics that are changed, text, number and line.
 type Changed = (&'static [(usize, u32)], &'static str, u32, u64);
 
-const CHANGED: [Changed; 17] = [
-    (&[(0, 0)], "x:\nx:\nFOO", 1, 0),
+const CHANGED: [Changed; 24] = [
+    // K2: targets go by IM_SIZE, not by how many words the text has.
+    (&[(IM_SIZE, 6)], "JMP 000005\nJMP 000006", 7, 2),
+    (&[(IM_SIZE, 6)], "JMP 000005,Z\nJMP 000006,Z", 7, 2),
+    (&[(IM_SIZE, 6)], "JSR 000005\nJSR 000006", 7, 2),
+    (&[(IM_SIZE, 6)], "JSRWP 0005,020\nJSRWP 0006,020", 7, 2),
+    (&[(IM_SIZE, 2)], "JMP on\non: JMP off\noff:", 7, 2),
+    (&[(IM_SIZE, 1)], "RET\nRET\nJMP on\non:\nFOO", 7, 3),
+    (&[(IM_SIZE, 6), (IOP_IF, 0), (IOP_RMW, 0)], "JMP 000006,BIO", 6, 1),
+    (&[(IM_SIZE, 0)], "x:\nx:\nFOO", 1, 0),
     (&[(ALU_MULT, 0)], "RET\nMUL %00,%01", 6, 2),
     (&[(ALU_MULT, 0)], "MUL %80,%01", 6, 1),
     (&[(ALU_MULT, 0)], "MUL %00,%0", 26, 1),

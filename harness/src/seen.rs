@@ -1,5 +1,6 @@
 //! What the compared calls met: the numbers of each call, the rules of 17, the rows and the conditions of jumps.
 
+use crate::edges::Edges;
 use crate::inputs::{Call, Input, Output, MACHINE};
 use crate::model::config::Config;
 use crate::model::rows::{rows, Condition, Field, Kind, Need};
@@ -93,6 +94,7 @@ pub struct Seen {
     forms: BTreeMap<&'static str, Vec<u64>>,
     /// Taken, not taken.
     jumps: BTreeMap<Jump, [u64; 2]>,
+    edges: Edges,
 }
 
 fn name_of(done: Done) -> &'static str {
@@ -115,11 +117,14 @@ const CONDITIONS: [(Condition, &str, [bool; 2]); 8] = [
 /// The words of a machine record that are looked at.
 const PC: usize = 0;
 const WP: usize = 1;
+/// The mark of an address that is not used.
+const UNUSED: u8 = 255;
 
 impl Seen {
     /// Counts a call by what it was given and what both sides answered.
     pub fn note(&mut self, input: &Input, output: &Output) {
         *self.numbers.entry(input.call.name()).or_default().entry(output.number).or_default() += 1;
+        self.note_edges(input, output);
         let given = |place: usize| &input.arguments[place].value;
         match (input.call, output.number) {
             (Call::Check, 17) => self.note_rule(output.values[3].wides()),
@@ -142,6 +147,32 @@ impl Seen {
                 let [config, image, registers] = [0, 1, 4].map(|place| given(place).words());
                 let (before, after) = (given(MACHINE).words(), output.values[MACHINE].words());
                 self.note_step(Done::Stepped, config, image, registers, before, after);
+            }
+            _ => {}
+        }
+    }
+
+    /// Direct targets at the image's edge, where 7 or nothing is answered.
+    fn note_edges(&mut self, input: &Input, output: &Output) {
+        let given = |place: usize| &input.arguments[place].value;
+        let (edges, number, refused) = (&mut self.edges, output.number, output.number == 7);
+        let places = [Call::Read, Call::Write, Call::Text, Call::Step, Call::Check];
+        let Some(c) = places.contains(&input.call).then(|| Config::lawful_from_words(given(0).words())).flatten() else { return };
+        match (input.call, number) {
+            (Call::Read, 0 | 7) => edges.note_word("read", &c, given(1).number() as u32, refused),
+            (Call::Text, 0 | 7) => edges.note_word("printed", &c, given(1).number() as u32, refused),
+            (Call::Write, 0 | 7) => edges.note_written(&c, given(1).words(), refused),
+            (Call::Step, 0 | 7) => {
+                edges.note_word("stepped", &c, given(1).words()[given(MACHINE).words()[PC] as usize], refused);
+            }
+            (Call::Check, 0) => {
+                let marked = given(1).words().iter().zip(given(2).bytes());
+                marked.filter(|(_, &mark)| mark != UNUSED).for_each(|(&word, _)| edges.note_word("checked", &c, word, false));
+            }
+            (Call::Check, 17) => {
+                if let [address, 3] = *output.values[3].wides() {
+                    edges.note_word("checked", &c, given(1).words()[address as usize], true);
+                }
             }
             _ => {}
         }
@@ -176,7 +207,11 @@ impl Seen {
         let Some(c) = Config::lawful_from_words(config) else { return };
         let lines = image.iter().zip(0u64..).filter(|(_, address)| (first..next).contains(address));
         for (&word, _) in lines {
-            match read(&c, word) {
+            let answer = read(&c, word);
+            if matches!(answer, Ok(_) | Err(7)) {
+                self.edges.note_word("listed", &c, word, answer.is_err());
+            }
+            match answer {
                 Ok(instruction) => self.note_form(Done::Listed, Form::of(&c, &instruction)),
                 Err(number) => *self.marks.entry(number).or_default() += 1,
             }
@@ -206,7 +241,7 @@ impl Seen {
 
     /// What must be met and never was.
     pub fn unmet(&self) -> Vec<String> {
-        let mut unmet = Vec::new();
+        let mut unmet = self.edges.unmet();
         for (rule, _) in (1..).zip(&self.rules).filter(|(_, &count)| count == 0) {
             unmet.push(format!("17 never named rule {rule}"));
         }
@@ -237,6 +272,7 @@ impl Seen {
         let each = |counts: Vec<String>| counts.join(", ");
         let rules = (1..).zip(&self.rules).map(|(rule, count): (u32, _)| format!("{rule}: {count}"));
         println!("17 by rule: {}", each(rules.collect()));
+        self.edges.print();
         let fewest = |counts: &Vec<u64>| Form::all().map(|form| (counts[form.index()], form.name())).min();
         let fewest_each = ALL_DONE.iter().filter_map(|(_, name)| {
             let (count, form) = self.forms.get(name).and_then(fewest)?;

@@ -20,6 +20,8 @@ enum Fault {
     SubsFlag,
     /// A run of three steps or more counts a cycle too many.
     RunCycle,
+    /// Reading takes a direct target at IM_SIZE (K2).
+    Target,
     /// A breach of rule 8 is called one of rule 7.
     Rule,
     /// A source with "RLD" in it is refused.
@@ -44,7 +46,10 @@ fn write_beside(list: &[u8], place: isize) {
 
 impl Calls for Wrong {
     fn read(&self, config: &[u32], word: u32, instruction: &mut [u32]) -> u32 {
-        Model.read(config, word, instruction)
+        match (self.0, config) {
+            (Fault::Target, [im_size @ 1..=32_767, rest @ ..]) => Model.read(&[&[im_size + 1], rest].concat(), word, instruction),
+            _ => Model.read(config, word, instruction),
+        }
     }
     fn write(&self, config: &[u32], instruction: &[u32], answers: &mut [u64]) -> u32 {
         Model.write(config, instruction, answers)
@@ -128,8 +133,18 @@ fn smaller(said: &str) -> Vec<&str> {
 fn a_wrong_step_is_found_and_made_small() {
     let said = found(Fault::SubsFlag, "states");
     let config = "config [1, 32, 8, 8, 1, 0, 0, 0, 0, 0, 0, 0, 0, 0, 0, 0, 0, 32, 0]";
-    assert_eq!(smaller(&said)[..5], ["given: step", config, "image [3b000000]", "inputs []", "machine [0 x 100]"], "{said}");
+    let [call, given, image, inputs, machine] = smaller(&said)[..5] else { panic!("{said}") };
+    assert_eq!([call, given, inputs, machine], ["given: step", config, "inputs []", "machine [0 x 100]"], "{said}");
+    let word = image.strip_prefix("image [").and_then(|rest| rest.strip_suffix("]")).expect("an image");
+    assert_eq!(u32::from_str_radix(word, 16).map(|word| word >> 27), Ok(SUBS), "{said}");
     assert!(said.contains("machine[4]: 0x0 and 0x1"), "{said}");
+}
+
+#[test]
+fn a_target_at_im_size_is_found() {
+    let said = found(Fault::Target, "words");
+    assert!(said.starts_with("model and library: the number: 7 and 0"), "{said}");
+    assert!(said.lines().any(|line| line.trim().starts_with("word c") || line.trim().starts_with("word f")), "{said}");
 }
 
 #[test]

@@ -8,12 +8,14 @@ use crate::vector_parts::{from_vector, to_vector};
 use std::collections::BTreeMap;
 use std::path::Path;
 
-/// What came of one folder: lines compared by file and number, differences, and lines that the calls cannot be given.
+/// What came of one folder: lines compared by file and number, differences, lines that the calls cannot be given, and how many lines of
+/// before K2 have a word that K2 answers otherwise.
 #[derive(Default)]
 pub struct Report {
     pub counts: BTreeMap<String, BTreeMap<u32, u32>>,
     pub differences: Vec<String>,
     pub left_out: Vec<String>,
+    pub superseded: u32,
 }
 
 /// A difference, or why a line cannot be given.
@@ -30,6 +32,32 @@ impl From<String> for Trouble {
 
 type Outcome = Result<(), Trouble>;
 type Check = fn(&dyn Calls, &Json) -> Outcome;
+/// Whether a line has a word that a later request answers otherwise.
+type Superseded = fn(&Json) -> Result<bool, String>;
+
+/// K2: "A direct JMP or JSR target at or above IM_SIZE is to be refused when the word is read or written, and so is a JSRWP address."
+fn is_past(im_size: u32, word: u32) -> bool {
+    match word >> 23 {
+        0b1_1000_0000..=0b1_1000_1111 | 0b1_1110_0001 => word & 0x7f_ffff >= im_size,
+        0b1_1110_0010 => word & 0xffff >= im_size,
+        _ => false,
+    }
+}
+
+/// Whether a word of the line is so: the word that is read or written, the one at PC, or any of the image.
+fn leaves_image(json: &Json) -> Result<bool, String> {
+    let mut words = match (json.field("word"), json.field("image")) {
+        (Json::Null, Json::Null) => return Ok(false),
+        (Json::Null, image) => image.words()?,
+        (word, _) => vec![word.word()?],
+    };
+    if json.field("before") != &Json::Null && json.field("budget") == &Json::Null {
+        let pc = json.field("before").field("m").field("pc").number()? as usize;
+        words = words.get(pc).copied().into_iter().collect();
+    }
+    let im_size = json.field("cfg").words()?[0];
+    Ok(words.iter().any(|&word| is_past(im_size, word)))
+}
 
 fn same<T: PartialEq + std::fmt::Debug>(what: &str, got: T, wanted: T) -> Result<(), String> {
     if got == wanted {
@@ -41,7 +69,7 @@ fn same<T: PartialEq + std::fmt::Debug>(what: &str, got: T, wanted: T) -> Result
 
 pub fn run(calls: &dyn Calls, folder: &Path) -> Result<Report, String> {
     let mut report = Report::default();
-    let files: [(&str, Check); 10] = [
+    let before_k2: [(&str, Check); 9] = [
         ("read", read),
         ("write", write),
         ("step", step),
@@ -51,23 +79,38 @@ pub fn run(calls: &dyn Calls, folder: &Path) -> Result<Report, String> {
         ("listing", listing),
         ("load", load),
         ("k1/read", read),
-        ("k1/text", assemble),
     ];
-    for (name, check) in files {
-        report.lines(calls, folder, name, check)?;
+    let with_k2: [(&str, Check); 3] = [("k1-k2/read", read), ("k1-k2/step", step), ("k1-k2/text", assemble)];
+    for (name, check) in before_k2 {
+        report.lines(calls, folder, name, check, leaves_image)?;
     }
-    images(calls, folder, &mut report)?;
+    for (name, check) in with_k2 {
+        report.lines(calls, folder, name, check, |_| Ok(false))?;
+    }
+    images(calls, folder, "images", true, &mut report)?;
+    images(calls, folder, "k1-k2/img", false, &mut report)?;
     Ok(report)
 }
 
 impl Report {
-    /// The lines of one file.
-    fn lines(&mut self, calls: &dyn Calls, folder: &Path, name: &str, check: Check) -> Result<(), String> {
+    /// The lines of one file, but for those that are superseded.
+    fn lines(
+        &mut self,
+        calls: &dyn Calls,
+        folder: &Path,
+        name: &str,
+        check: Check,
+        superseded: Superseded,
+    ) -> Result<(), String> {
         let path = folder.join(format!("{name}.jsonl"));
         let text = std::fs::read_to_string(&path).map_err(|e| format!("{}: {e}", path.display()))?;
         for (index, line) in text.lines().enumerate() {
             let place = format!("{name}.jsonl:{}", index + 1);
             let json = Json::parse(line).map_err(|e| format!("{place}: {e}"))?;
+            if superseded(&json)? {
+                self.superseded += 1;
+                continue;
+            }
             let number = json.field("no").word()?;
             self.add(name, place, number, check(calls, &json));
         }
@@ -304,8 +347,8 @@ fn listing_program(calls: &dyn Calls, file: &[u8]) -> (u32, Vec<u8>) {
     (0, page)
 }
 
-fn images(calls: &dyn Calls, folder: &Path, report: &mut Report) -> Result<(), String> {
-    let folder = folder.join("images");
+fn images(calls: &dyn Calls, folder: &Path, name: &str, before_k2: bool, report: &mut Report) -> Result<(), String> {
+    let folder = folder.join(name);
     let entries = std::fs::read_dir(&folder).map_err(|e| format!("{}: {e}", folder.display()))?;
     let mut paths: Vec<_> = entries.filter_map(|entry| entry.ok().map(|e| e.path())).collect();
     paths.retain(|path| path.extension().is_some_and(|e| e == "img"));
@@ -313,9 +356,15 @@ fn images(calls: &dyn Calls, folder: &Path, report: &mut Report) -> Result<(), S
     for path in paths {
         let bytes = |path: &Path| std::fs::read(path).map_err(|e| format!("{}: {e}", path.display()));
         let (file, wanted) = (bytes(&path)?, bytes(&path.with_extension("out"))?);
+        let (mut config, mut image) = ([0; 19], vec![0; 32_768]);
+        let loaded = calls.load(&file, &mut config, &mut image) == 0;
+        if before_k2 && loaded && image[..config[0] as usize].iter().any(|&word| is_past(config[0], word)) {
+            report.superseded += 1;
+            continue;
+        }
         let (number, got) = listing_program(calls, &file);
         let text = |bytes: &[u8]| String::from_utf8_lossy(bytes).into_owned();
-        let place = format!("images/{}", path.file_name().unwrap_or_default().to_string_lossy());
+        let place = format!("{name}/{}", path.file_name().unwrap_or_default().to_string_lossy());
         let outcome = if got == wanted {
             Ok(())
         } else {
@@ -323,7 +372,7 @@ fn images(calls: &dyn Calls, folder: &Path, report: &mut Report) -> Result<(), S
             let differing = got.lines().zip(wanted.lines()).find(|(a, b)| a != b);
             Err(Trouble::Differs(format!("first differing lines (got, wanted): {differing:?}")))
         };
-        report.add("images", place, number, outcome);
+        report.add(name, place, number, outcome);
     }
     Ok(())
 }

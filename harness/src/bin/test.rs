@@ -20,7 +20,9 @@ use yam_harness::runs::{RunsSeen, LATE};
 use yam_harness::seen::{Counts, Seen};
 #[cfg(any(feature = "library", feature = "plain"))]
 use yam_harness::stack;
-use yam_harness::{document, document_texts, programs, refusals, signatures, vectors, LIBRARY, LIBRARY_NAME, SHOWN};
+use yam_harness::{
+    document, document_targets, document_texts, programs, refusals, signatures, vectors, LIBRARY, LIBRARY_NAME, SHOWN,
+};
 
 /// How much of a difference is printed.
 const SHOWN_BYTES: usize = 3000;
@@ -242,7 +244,12 @@ fn run_document(name: &str, calls: &dyn Calls) -> bool {
         Ok(count) => println!("source texts by document 02, {name}: all {count} as it says"),
         Err(how) => println!("source texts by document 02, {name}: {how}"),
     }
-    result.is_ok() && texts.is_ok()
+    let targets = document_targets::run(calls);
+    match &targets {
+        Ok(()) => println!("direct targets by document 02, {name}: as it says"),
+        Err(how) => println!("direct targets by document 02, {name}: {how}"),
+    }
+    result.is_ok() && texts.is_ok() && targets.is_ok()
 }
 
 fn run_refusals(name: &str, calls: &dyn Calls) -> bool {
@@ -286,6 +293,7 @@ fn run_vectors(name: &str, calls: &dyn Calls, folder: &std::path::Path) -> Resul
     for line in &report.left_out {
         println!("  left out, since the interface cannot say it: {line}");
     }
+    println!("  {} lines of before K2 left out, since it answers a word of theirs otherwise", report.superseded);
     for difference in report.differences.iter().take(SHOWN) {
         println!("  differs: {}", difference.chars().take(SHOWN_BYTES).collect::<String>());
     }

@@ -20,7 +20,7 @@ pub fn lawful(r: &mut Random, size: Size) -> Vec<u32> {
     let on = |r: &mut Random| u32::from(r.chance(80));
     let iop_if = on(r);
     let im_size = match size {
-        Size::Small => r.pick(&[1, 2, 3, 4, 5, 6, 7, 9, 12, 16, 20, 30, 40, 60]),
+        Size::Small => r.pick(&[1, 2, 3, 4, 5, 6, 7, 8, 9, 12, 16, 20, 30, 32, 40, 60, 64]),
         Size::Large => r.pick(&[125, 126, 127, 252, 253, 1000, 8192, 8193, 8316, 8317, 32767, 32768]),
     };
     let dm_size = match size {

@@ -5,7 +5,7 @@ use crate::model::config::Config;
 use crate::model::rows::{rows, Condition, Kind, Operand};
 use crate::model::sheet::mark;
 use crate::model::step::{reads_port, writes_port};
-use crate::model::words::read;
+use crate::model::words::{assemble, read};
 use crate::random::Random;
 use std::ops::Range;
 
@@ -222,6 +222,10 @@ pub fn damage(r: &mut Random, c: &Config, program: &mut Program) {
                 program.image[at] = program.image[from];
             }
             24..=26 if program.image.len() > 1 => ports(r, c, &mut program.image),
+            31 | 32 => {
+                let (at, edge) = (place(r, program.image.len()), words::edge(r, c));
+                program.image[at] = assemble(&edge);
+            }
             24..=30 => {
                 let at = place(r, program.sheet.len());
                 program.sheet[at] ^= 1 << r.below(8);

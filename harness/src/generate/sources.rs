@@ -97,7 +97,8 @@ fn in_form(r: &mut Random, c: &Config) -> String {
                 Field::Byte => instruction.byte = r.below(4),
                 Field::Count => instruction.value = r.pick(&[0, 1, 2, 14, 15, 16, 17, 0x8001, 0xffff]),
                 Field::Address => instruction.value = near(r, c.dm_size) & 0xffff,
-                Field::Target => instruction.value = r.pick(&[0x7f_ffff, 0x80_0000, 0xff_ffff, c.im_size]),
+                Field::Target => instruction.value = r.pick(&[0x7f_ffff, 0x80_0000, 0xff_ffff, c.im_size, c.im_size - 1]),
+                Field::Entry => instruction.value = r.pick(&[0xffff, c.im_size, c.im_size - 1]) & 0xffff,
                 _ => {}
             }
         }

@@ -15,8 +15,8 @@ fn part(r: &mut Random, c: &Config, field: Field) -> u32 {
         Field::Count if c.alu_level == 0 => 1,
         Field::Count => r.below(16),
         Field::Address => r.below(c.dm_size.clamp(1, 65536)),
-        Field::Target if r.chance(90) => r.below(c.im_size.clamp(1, 1 << 23)),
-        Field::Target => r.below(1 << 23),
+        Field::Target | Field::Entry if r.chance(10) => c.im_size.clamp(1, 0x8000) - 1,
+        Field::Target | Field::Entry => r.below(c.im_size.clamp(1, 0x8000)),
         Field::Immediate if r.chance(60) => r.odd() & 0xffff,
         Field::Immediate => r.below(0x1_0000),
     }
@@ -28,7 +28,7 @@ fn set(instruction: &mut Instruction, field: Field, value: u32) {
         Field::Destination | Field::Unit => instruction.destination = value,
         Field::Source => instruction.source = value,
         Field::Byte => instruction.byte = value,
-        Field::Immediate | Field::Count | Field::Address | Field::Target => instruction.value = value,
+        Field::Immediate | Field::Count | Field::Address | Field::Target | Field::Entry => instruction.value = value,
     }
 }
 
@@ -38,9 +38,6 @@ pub fn parts_of(r: &mut Random, c: &Config, row: usize) -> Instruction {
     for &field in rows()[row].fields {
         let value = part(r, c, field);
         set(&mut instruction, field, value);
-    }
-    if rows()[row].kind == Kind::CallBank && r.chance(70) {
-        instruction.value = r.below(c.im_size.clamp(1, 65536));
     }
     instruction
 }
@@ -79,7 +76,8 @@ fn limit(c: &Config, field: Field) -> Option<u32> {
         Field::Byte => Some(c.reg_width / 8),
         Field::Count => Some(if c.alu_level == 0 { 2 } else { 16 }),
         Field::Address => Some(c.dm_size),
-        Field::Flag | Field::Immediate | Field::Target => None,
+        Field::Target | Field::Entry => Some(c.im_size),
+        Field::Flag | Field::Immediate => None,
     }
 }
 
@@ -96,8 +94,24 @@ fn past_limit(r: &mut Random, c: &Config) -> u32 {
     assemble(&instruction)
 }
 
+/// A JMP, JSR or JSRWP whose direct target is at the image's edge.
+pub fn edge(r: &mut Random, c: &Config) -> Instruction {
+    let row = loop {
+        let row = row(r);
+        let direct = |field: &Field| matches!(field, Field::Target | Field::Entry);
+        if rows()[row].fields.iter().any(direct) && rows()[row].need != Need::Unsupported {
+            break row;
+        }
+    };
+    let size = c.im_size.clamp(1, 0x8000);
+    Instruction { value: r.pick(&[size - 1, size, size, size + 1]), ..parts_of(r, c, row) }
+}
+
 /// A word that may be anything.
 pub fn any(r: &mut Random, c: &Config) -> u32 {
+    if r.chance(8) {
+        return assemble(&edge(r, c));
+    }
     let word = readable(r, c);
     match r.below(20) {
         0..=9 => word,
@@ -126,7 +140,8 @@ pub fn special(r: &mut Random, c: &Config) -> u32 {
 /// A list for writing: parts of a row, most often damaged in a part or two.
 pub fn parts(r: &mut Random, c: &Config) -> Vec<u32> {
     let row = row(r);
-    let mut list = parts_of(r, c, row).to_words().to_vec();
+    let instruction = if r.chance(5) { edge(r, c) } else { parts_of(r, c, row) };
+    let mut list = instruction.to_words().to_vec();
     if r.chance(60) {
         return list;
     }

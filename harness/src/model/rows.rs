@@ -38,8 +38,10 @@ pub enum Field {
     Count,
     /// A data address in 15-0.
     Address,
-    /// 23 bits in 22-0.
+    /// A direct target in 22-0.
     Target,
+    /// JSRWP's address in 15-0.
+    Entry,
 }
 
 #[derive(Clone, Copy, Debug, PartialEq, Eq)]
@@ -153,7 +155,7 @@ pub fn place(field: Field) -> (u32, u32) {
         Field::Destination | Field::Unit => (16, 7),
         Field::Source => (0, 7),
         Field::Byte => (23, 2),
-        Field::Immediate | Field::Count | Field::Address => (0, 16),
+        Field::Immediate | Field::Count | Field::Address | Field::Entry => (0, 16),
         Field::Target => (0, 23),
     }
 }
@@ -331,7 +333,7 @@ fn build() -> Vec<Row> {
     t.add(9, 0b1111_00001, none, TARGET, Kind::Call, "JSR t");
     t.add(9, 0b1111_10001, none, REGISTER, Kind::CallRegister, "JSR @d");
     t.add(9, 0b1111_00101, none, IMMEDIATE, Kind::ReturnLoad, "RLD d,#v");
-    t.add(9, 0b1111_00010, Need::Banks, &[Field::Unit, Field::Immediate], Kind::CallBank, "JSRWP v,o");
+    t.add(9, 0b1111_00010, Need::Banks, &[Field::Unit, Field::Entry], Kind::CallBank, "JSRWP v,o");
     t.add(10, 0b1111_00100_0, Need::Unsupported, &[], Kind::Unsupported, "IRQ_ON");
     t.add(10, 0b1111_00100_1, Need::Unsupported, &[], Kind::Unsupported, "IRQ_OFF");
     t.control(0, none, Kind::Return, "RET");

@@ -38,7 +38,7 @@ impl Instruction {
             Field::Destination | Field::Unit => self.destination,
             Field::Source => self.source,
             Field::Byte => self.byte,
-            Field::Immediate | Field::Count | Field::Address | Field::Target => self.value,
+            Field::Immediate | Field::Count | Field::Address | Field::Target | Field::Entry => self.value,
         }
     }
 
@@ -48,7 +48,7 @@ impl Instruction {
             Field::Destination | Field::Unit => &mut self.destination,
             Field::Source => &mut self.source,
             Field::Byte => &mut self.byte,
-            Field::Immediate | Field::Count | Field::Address | Field::Target => &mut self.value,
+            Field::Immediate | Field::Count | Field::Address | Field::Target | Field::Entry => &mut self.value,
         }
     }
 }
@@ -79,7 +79,9 @@ fn within(c: &Config, field: Field, part: u32) -> bool {
         Field::Count if c.alu_level == 0 => part == 1,
         Field::Count => part <= 15,
         Field::Address => part < c.dm_size,
-        Field::Flag | Field::Immediate | Field::Target => true,
+        // K2: "at or above IM_SIZE is to be refused when the word is read or written".
+        Field::Target | Field::Entry => part < c.im_size,
+        Field::Flag | Field::Immediate => true,
     };
     limit && u64::from(part) < 1 << width
 }

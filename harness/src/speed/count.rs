@@ -2,7 +2,9 @@
 //! two counts, so that what does not grow with the size falls out.
 
 use super::images::Whole;
-use super::programs::{config, image, narrow_config, program, spread_programs, LONG_IMAGE, NAMES, SHORT_IMAGE};
+use super::programs::{
+    chain, config, image, narrow_config, program, spread_programs, CHAIN, LONG_IMAGE, NAMES, ODD_IMAGE, SHORT_IMAGE,
+};
 use super::runs::Work;
 use super::texts::text;
 use crate::c_interface::Plain;
@@ -87,7 +89,11 @@ pub fn cases() -> Vec<Case> {
     for im_size in [SHORT_IMAGE, LONG_IMAGE] {
         list.extend(NAMES.map(|name| steps(name.to_string(), im_size, image(im_size, &[(0, &program(name, 32))]))));
     }
+    list.push(steps("calls".to_string(), ODD_IMAGE, image(ODD_IMAGE, &[(0, &program("calls", 32))])));
     list.extend(spread_programs().into_iter().map(|(name, image)| steps(name.to_string(), LONG_IMAGE, image)));
+    let decoded = What::Steps(Work::new(config(CHAIN, 32), chain(), 0));
+    let name = format!("run, each word a JMP to be decoded, IM_SIZE {CHAIN}, a step");
+    list.push(Case { name, sizes: (500, u64::from(CHAIN)), units: 1, what: decoded });
     list.extend(call_cases());
     let once = |name: &str, units: u64, what: What| Case { name: name.to_string(), sizes: (1, 2), units, what };
     let size = 8_192;

@@ -16,6 +16,9 @@ pub fn narrow_config(im_size: u32, dm_size: u32) -> [u32; 19] {
 /// The two sizes of image at which runs are timed and counted.
 pub const SHORT_IMAGE: u32 = 128;
 pub const LONG_IMAGE: u32 = 32_768;
+/// Sizes that are no power of two: direct targets are compared with them, and no mask tells (K2).
+pub const ODD_IMAGE: u32 = 100;
+pub const CHAIN: u32 = 1_500;
 
 /// An image of `size` words with these stretches of code, zeros elsewhere.
 pub fn image(size: u32, stretches: &[(u32, &[u32])]) -> Vec<u32> {
@@ -103,6 +106,11 @@ pub fn program(name: &str, dm_size: u32) -> Vec<u32> {
 
 fn jump(target: u32) -> u32 {
     0xc000_0000 | target
+}
+
+/// A JMP at each address to the next, so that each step decodes a word.
+pub fn chain() -> Vec<u32> {
+    (0..CHAIN).map(|address| jump((address + 1) % CHAIN)).collect()
 }
 
 /// Programs in an image of 32,768 words that are not where a small image has them.

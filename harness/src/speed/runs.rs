@@ -1,6 +1,6 @@
 //! Steps and runs: what a call is given, and times of the library beside plain C.
 
-use super::programs::{config, image, narrow_config, program, spread_programs, LONG_IMAGE, NAMES, SHORT_IMAGE};
+use super::programs::{config, image, narrow_config, program, spread_programs, LONG_IMAGE, NAMES, ODD_IMAGE, SHORT_IMAGE};
 use super::times::{grown, line, Times};
 use crate::c_interface::Plain;
 use crate::calls::{Calls, State};
@@ -143,6 +143,11 @@ pub fn report_runs<L: Calls>(library: &L, rounds: usize) -> Result<(), String> {
         let (library, plain) = grown(&sizes[0].2.times, &sizes[1].2.times);
         println!("{name}, DM_SIZE {LARGE_DATA} to {SMALL_DATA}: library {library:.2}, plain {plain:.2}");
     }
+    let mut odd = Bench::new(config(ODD_IMAGE, DATA), image(ODD_IMAGE, &[(0, &program("calls", DATA))]), STEPS);
+    for _ in 0..rounds {
+        odd.round(library, 1, Some(STEPS), STEPS)?;
+    }
+    line(&format!("calls, IM_SIZE {ODD_IMAGE}, DM_SIZE {DATA}"), "step", &odd.times, GOAL);
     for (name, image) in spread_programs() {
         let mut bench = Bench::new(config(LONG_IMAGE, DATA), image, STEPS);
         for _ in 0..rounds {
