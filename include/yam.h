@@ -36,6 +36,7 @@ extern "C" {
    source       what stands in bits 6-0: also the address register of MOVX from data memory, RX of LDYX;
    byte number  0 to 3, of BST, BLD and BLDS;
    value        what stands in bits 15-0 (immediate, shift count, data address, JSRWP address) or 22-0 (target of JMP and JSR).
+                A target and a JSRWP address are below IM_SIZE, else 7.
    A part that the row does not use is 0. Another length is refused by 7, after 1. */
 #define YAM_INSTRUCTION_WORDS 6
 
