@@ -21,7 +21,7 @@ use Rattle.state.specs.Plans.{M, comparePlan, computePlan, multiplyPlan,
 use Rattle.state.specs.Stops.{partsAt, kindAt}
 use Rattle.state.specs.Step.{Outcome, refused, number, applied, planAt, advanceOf, stepOf}
 use Rattle.state.specs.Claims.{Elsewhere, jumping, branching, calling, returning, loading, leaving, LeavesImage}
-use Rattle.state.proofs.Stops.{tells, a-target, an-entry, Told, told, told-value}
+use Rattle.state.proofs.Stops.{tells, a-target, Told, told, told-value}
 
 module _ (e : Env) (s : State) where
   abbrev c : Config
@@ -37,11 +37,8 @@ module _ (e : Env) (s : State) where
   r = rowAt (i .row)
 
   module _ (t : Told e s) where
-    inside : {A : Type 0} → T (is (r .value) target) → c .imsize ≤ i .value → A
+    inside : {A : Type 0} → T (is (r .value) target) ⊎ T (is (r .value) bank-address) → c .imsize ≤ i .value → A
     inside p h = let x : ⊥ = omega (arith, a-target c (r .value) (i .value) p (told-value e s t), h) in absurd x
-
-    entered : {A : Type 0} → T (is (r .value) bank-address) → c .imsize ≤ i .value → A
-    entered p h = let x : ⊥ = omega (arith, an-entry c (r .value) (i .value) p (told-value e s t), h) in absurd x
 
     by-kind : (k : Kind) → Holds (tells k r) → c .imsize ≤ planOf v i k .core .pc → Elsewhere k ⊎ (planOf v i k .core .pc ≡ s .core .pc + 1)
     unfolding tells pick comparePlan computePlan multiplyPlan loadIndexPlan advanced indexStorePlan indexLoadPlan movePlan loadConstantPlan loadRegisterPlan loadDirectPlan storeRegisterPlan storeDirectPlan portReadPlan portWritePlan portModifyPlan jumpPlan branchPlan jumpRegisterPlan branchRegisterPlan callPlan callRegisterPlan retPlan retConstantPlan enterBankPlan leaveBankPlan enterSpecialPlan leaveSpecialPlan planOf
@@ -62,20 +59,20 @@ module _ (e : Env) (s : State) where
     by-kind port-read p h = inr refl
     by-kind port-modify p h = inr refl
     by-kind (port-write x) p h = inr refl
-    by-kind jump p h = inside p h
+    by-kind jump p h = inside (inl p) h
     by-kind (branch b) p h =
         either (λ m. c .imsize ≤ m .pc → Elsewhere (branch b) ⊎ (m .pc ≡ s .core .pc + 1)) (conditionMet b (s .core .n) (s .core .z)) (at (M v i) (i .value))
         (M v i)
-        (λ _ g. inside p g)
+        (λ _ g. inside (inl p) g)
         (λ _ g. inr refl)
         h
     by-kind jump-register p h = inl jumping
     by-kind (branch-register b) p h = inl branching
-    by-kind call p h = inside p h
+    by-kind call p h = inside (inl p) h
     by-kind call-register p h = inl calling
     by-kind ret p h = inl returning
     by-kind ret-constant p h = inl loading
-    by-kind enter-bank p h = entered (p .0) h
+    by-kind enter-bank p h = inside (inr (p .0)) h
     by-kind leave-bank p h = inl leaving
     by-kind enter-special p h = inr refl
     by-kind leave-special p h = inr refl

@@ -2,6 +2,7 @@
 -- Assumes nothing.
 use Prim.Native.Nat.{ℕ, suc, _+_, _*_, _/_, _%_, _<_, _≤_}
 use mathlib.Core.Path.{_≡_, refl, _∙_}
+use mathlib.Core.Logic.{inl, inr}
 use native.Mathlib.Nat.{mod-lt}
 use native.Mathlib.Numerals.{add-one}
 use native.Mathlib.Omega.{arith}
@@ -33,7 +34,7 @@ use Rattle.state.specs.Stops.{stops9to15, partsAt, kindAt}
 use Rattle.state.specs.Step.{putOf, planAt}
 use Rattle.state.specs.Good.{Indices, InBank, Posted, Ranged, Good}
 use Rattle.state.proofs.Ranges.{Bounds, bounds, top-byte}
-use Rattle.state.proofs.Stops.{tells, a-register, a-target, an-entry, an-address, with-banks, Told, told-value}
+use Rattle.state.proofs.Stops.{tells, a-register, a-target, an-address, with-banks, Told, told-value}
 use Rattle.state.proofs.Cores.{kept-at, kept-banked, kept-indexed, kept-flagged, kept-multiplied, kept-deep, kept-masked, kept-posting, kept-taking, kept-logging}
 use Rattle.state.specs.Landing.{Inside}
 use Rattle.state.proofs.Step.{Small, Sound}
@@ -259,7 +260,7 @@ module _ (e : Env) (s : State) (g : Good e s) where
     register-target = omega arith
 
     direct-target : T (is (r .value) target-part) → i .value < 0x800000
-    direct-target p = omega (arith, a-target c (r .value) (i .value) p fits-value, law .image)
+    direct-target p = omega (arith, a-target c (r .value) (i .value) (inl p) fits-value, law .image)
 
     jump-sound : {a : ℕ} → a < 0x800000 → Sound e s (moved (at (M v i) a))
     jump-sound h = moved-sound (to h) refl
@@ -379,7 +380,7 @@ module _ (e : Env) (s : State) (g : Good e s) where
     by-kind ret p q = ret-sound (q .1 .1 .0 tt) no-write nowhere
     by-kind ret-constant p q = ret-sound (q .1 .1 .0 tt) (wrote (constant-word _ _)) (landed (assigned p))
     by-kind enter-bank p q =
-        enter-bank-sound (an-entry c (r .value) (i .value) (p .0) fits-value) (q .1 .1 .1 .0 .0 tt) (with-banks c (r .option) (p .1) (t .option))
+        enter-bank-sound (a-target c (r .value) (i .value) (inr (p .0)) fits-value) (q .1 .1 .1 .0 .0 tt) (with-banks c (r .option) (p .1) (t .option))
     by-kind leave-bank p q = leave-bank-sound (q .1 .1 .1 .0 .1 tt)
     by-kind enter-special p q = enter-special-sound
     by-kind leave-special p q = leave-special-sound

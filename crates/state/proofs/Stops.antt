@@ -2,6 +2,7 @@
 -- Assumes nothing.
 use Prim.Native.Nat.{ℕ, _<_}
 use mathlib.Core.Path.{_≡_}
+use mathlib.Core.Logic.{_⊎_, inl, inr}
 use mathlib.Core.Bool.{true}
 use lib.Dec.{T}
 use Rattle.laws.specs.Choice.{decided-yes}
@@ -73,13 +74,10 @@ module _ (c : Config) (p : Part) (v : ℕ) where
   unfolding inRange
   a-register t h = rw (decided-yes (Part-discrete p register) t) at h
 
-  pub a-target : T (is p target) → Holds (inRange c p v) → v < c .imsize
+  pub a-target : T (is p target) ⊎ T (is p bank-address) → Holds (inRange c p v) → v < c .imsize
   unfolding inRange
-  a-target t h = rw (decided-yes (Part-discrete p target) t) at h
-
-  pub an-entry : T (is p bank-address) → Holds (inRange c p v) → v < c .imsize
-  unfolding inRange
-  an-entry t h = rw (decided-yes (Part-discrete p bank-address) t) at h
+  a-target (inl t) h = rw (decided-yes (Part-discrete p target) t) at h
+  a-target (inr t) h = rw (decided-yes (Part-discrete p bank-address) t) at h
 
   pub an-address : T (is p write-address) → Holds (inRange c p v) → v < c .dmsize
   unfolding inRange
