@@ -65,7 +65,7 @@ for refused, source, line in [
     (26, "RET\n\nRET ", 3),
     (25, "RET\nloop: JMP lop", 2),
     (6, "RET\nMUL %00,%01", 2),
-    (7, "RET\nJMP 800000", 2),
+    (7, "RET\nJMP 000006", 2),
 ]:
     lent = yam.words([7] * 6)
     same(f"assemble, {refused}", (yam.assemble(config, source, lent), list(lent)), ((refused, 0, line), [7] * 6))

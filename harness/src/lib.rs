@@ -23,6 +23,7 @@ pub mod signatures;
 pub mod speed;
 #[cfg(any(feature = "library", feature = "plain"))]
 pub mod stack;
+pub mod superseded;
 pub mod texts;
 #[cfg(test)]
 mod trials;

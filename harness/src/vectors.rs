@@ -4,12 +4,13 @@ use crate::calls::{Calls, State};
 use crate::json::Json;
 use crate::model::config::{FILE_FIELDS, FIXED_FIELDS};
 use crate::model::machine::{MACHINE_WORDS, STACK_CELLS};
+use crate::superseded;
 use crate::vector_parts::{from_vector, to_vector};
 use std::collections::BTreeMap;
 use std::path::Path;
 
-/// What came of one folder: lines compared by file and number, differences, lines that the calls cannot be given, and how many lines of
-/// before K2 have a word that K2 answers otherwise.
+/// What came of one folder: lines compared by file and number, differences, lines that the calls cannot be given, and how many lines and
+/// images of before K2 it answers otherwise.
 #[derive(Default)]
 pub struct Report {
     pub counts: BTreeMap<String, BTreeMap<u32, u32>>,
@@ -32,32 +33,8 @@ impl From<String> for Trouble {
 
 type Outcome = Result<(), Trouble>;
 type Check = fn(&dyn Calls, &Json) -> Outcome;
-/// Whether a line has a word that a later request answers otherwise.
+/// Whether a later request answers a line otherwise.
 type Superseded = fn(&Json) -> Result<bool, String>;
-
-/// K2: "A direct JMP or JSR target at or above IM_SIZE is to be refused when the word is read or written, and so is a JSRWP address."
-fn is_past(im_size: u32, word: u32) -> bool {
-    match word >> 23 {
-        0b1_1000_0000..=0b1_1000_1111 | 0b1_1110_0001 => word & 0x7f_ffff >= im_size,
-        0b1_1110_0010 => word & 0xffff >= im_size,
-        _ => false,
-    }
-}
-
-/// Whether a word of the line is so: the word that is read or written, the one at PC, or any of the image.
-fn leaves_image(json: &Json) -> Result<bool, String> {
-    let mut words = match (json.field("word"), json.field("image")) {
-        (Json::Null, Json::Null) => return Ok(false),
-        (Json::Null, image) => image.words()?,
-        (word, _) => vec![word.word()?],
-    };
-    if json.field("before") != &Json::Null && json.field("budget") == &Json::Null {
-        let pc = json.field("before").field("m").field("pc").number()? as usize;
-        words = words.get(pc).copied().into_iter().collect();
-    }
-    let im_size = json.field("cfg").words()?[0];
-    Ok(words.iter().any(|&word| is_past(im_size, word)))
-}
 
 fn same<T: PartialEq + std::fmt::Debug>(what: &str, got: T, wanted: T) -> Result<(), String> {
     if got == wanted {
@@ -69,23 +46,24 @@ fn same<T: PartialEq + std::fmt::Debug>(what: &str, got: T, wanted: T) -> Result
 
 pub fn run(calls: &dyn Calls, folder: &Path) -> Result<Report, String> {
     let mut report = Report::default();
-    let before_k2: [(&str, Check); 9] = [
-        ("read", read),
-        ("write", write),
-        ("step", step),
-        ("run", run_line),
-        ("sheet", sheet),
-        ("sheet_tiny", sheet),
-        ("listing", listing),
-        ("load", load),
-        ("k1/read", read),
+    let none: Superseded = |_| Ok(false);
+    let files: [(&str, Check, Superseded); 13] = [
+        ("read", read, superseded::line),
+        ("write", write, superseded::line),
+        ("step", step, superseded::line),
+        ("run", run_line, superseded::line),
+        ("sheet", sheet, superseded::line),
+        ("sheet_tiny", sheet, superseded::line),
+        ("listing", listing, superseded::line),
+        ("load", load, superseded::line),
+        ("k1/read", read, superseded::line),
+        ("k1/text", assemble, superseded::source),
+        ("k1-k2/read", read, none),
+        ("k1-k2/step", step, none),
+        ("k1-k2/text", assemble, none),
     ];
-    let with_k2: [(&str, Check); 3] = [("k1-k2/read", read), ("k1-k2/step", step), ("k1-k2/text", assemble)];
-    for (name, check) in before_k2 {
-        report.lines(calls, folder, name, check, leaves_image)?;
-    }
-    for (name, check) in with_k2 {
-        report.lines(calls, folder, name, check, |_| Ok(false))?;
+    for (name, check, superseded) in files {
+        report.lines(calls, folder, name, check, superseded)?;
     }
     images(calls, folder, "images", true, &mut report)?;
     images(calls, folder, "k1-k2/img", false, &mut report)?;
@@ -358,7 +336,7 @@ fn images(calls: &dyn Calls, folder: &Path, name: &str, before_k2: bool, report:
         let (file, wanted) = (bytes(&path)?, bytes(&path.with_extension("out"))?);
         let (mut config, mut image) = ([0; 19], vec![0; 32_768]);
         let loaded = calls.load(&file, &mut config, &mut image) == 0;
-        if before_k2 && loaded && image[..config[0] as usize].iter().any(|&word| is_past(config[0], word)) {
+        if before_k2 && loaded && image[..config[0] as usize].iter().any(|&word| superseded::word(config[0], word)) {
             report.superseded += 1;
             continue;
         }

@@ -293,7 +293,7 @@ fn run_vectors(name: &str, calls: &dyn Calls, folder: &std::path::Path) -> Resul
     for line in &report.left_out {
         println!("  left out, since the interface cannot say it: {line}");
     }
-    println!("  {} lines of before K2 left out, since it answers a word of theirs otherwise", report.superseded);
+    println!("  {} lines and images of before K2 left out, since it may answer them otherwise", report.superseded);
     for difference in report.differences.iter().take(SHOWN) {
         println!("  differs: {}", difference.chars().take(SHOWN_BYTES).collect::<String>());
     }
