@@ -12,6 +12,7 @@ use Rattle.rules.specs.Demand.{atReset}
 use Rattle.rules.specs.Invariant.{Invariant}
 use Rattle.rules.proofs.Exact.{exact}
 use Rattle.rules.proofs.First.{names-first}
+use Rattle.rules.proofs.Targets.{caught-by-3}
 use Rattle.rules.proofs.Stepping.{low}
 use Rattle.rules.proofs.Demand.{call-well, reset-holds, passed-level, demand-3}
 use Rattle.certificate.specs.Demand.{Made, stepped, ran, callIn, numberOf, leftBy, Promised, Answered, AllAllowed, Demand3Calls}
@@ -50,4 +51,4 @@ demand-3-calls c image certificate l pass inputs registers memory addresses valu
 -- what the check promises follows from its answer
 pub checks : (c : Config) (image certificate : List ℕ) (r : Answer) → r ≡ checkOf c image certificate → Checks c image certificate r
 checks c image certificate r e =
-    record { answer = e; exact = exact; names-first = names-first; demand3 = demand-3; demand3-calls = demand-3-calls }
+    record { answer = e; exact = exact; names-first = names-first; caught-by-3 = caught-by-3; demand3 = demand-3; demand3-calls = demand-3-calls }

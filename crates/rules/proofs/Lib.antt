@@ -7,3 +7,4 @@ pub mod Control
 pub mod Stepping
 pub mod Demand
 pub mod Cases
+pub mod Targets

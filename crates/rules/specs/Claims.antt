@@ -1,9 +1,16 @@
 -- What is proved of the check beside `Exact` and `Demand3`.
-use Prim.Native.Nat.{ℕ, _<_}
+use Prim.Native.Nat.{ℕ, _<_, _≤_}
 use mathlib.Core.Path.{_≡_}
+use mathlib.Core.Logic.{_⊎_}
 use mathlib.Core.List.{List}
+use lib.Dec.{T}
+use lib.ListN.{getD}
 use Rattle.laws.specs.First.{Obeyed}
 use Rattle.words.specs.declared.Config.{Config}
+use Rattle.words.specs.Parts.{target, bank-address, is}
+use Rattle.words.specs.Rows.{rowAt}
+use Rattle.words.specs.Words.{partsOf}
+use Rattle.rules.specs.Marks.{markAt, used}
 use Rattle.rules.specs.Rules.{rulesAt}
 use Rattle.rules.specs.Check.{lowest, checkOf}
 
@@ -19,3 +26,16 @@ NamesFirst =
     (c : Config) (image certificate : List ℕ) →
     checkOf c image certificate .number ≡ 17 →
     FirstBroken c image certificate (checkOf c image certificate .address) (checkOf c image certificate .rule)
+
+-- word w has a direct JMP or JSR target, or a JSRWP address, at or above IM_SIZE
+pub record AimsOutside (c : Config) (w : ℕ) : Type 0 where
+  pub aims : T (is (rowAt (partsOf c w .row) .value) target) ⊎ T (is (rowAt (partsOf c w .row) .value) bank-address)
+  pub outside : c .imsize ≤ partsOf c w .value
+
+-- K2: "rule 3, no longer rule 4, catches such a target": at a used address, 3 is the lowest rule that is broken, or 1 or 2 is.
+abbrev pub CaughtBy3 : Type 0
+CaughtBy3 =
+    (c : Config) (image certificate : List ℕ) (a : ℕ) →
+    T (used (markAt certificate a)) →
+    AimsOutside c (getD image a 0) →
+    (0 < lowest c image certificate a) × (lowest c image certificate a ≤ 3)
