@@ -1,7 +1,9 @@
 //! Which outside vectors of before K2 it answers otherwise: "A direct JMP or JSR target at or above IM_SIZE is to be refused when the word is
-//! read or written, and so is a JSRWP address." This is told from what a line gives, before anything is run.
+//! read or written, and so is a JSRWP address." This is told from what a line or a file gives, before anything is compared.
 
+use crate::calls::Calls;
 use crate::json::Json;
+use crate::model::Model;
 
 /// Whether a word has such a target.
 pub fn word(im_size: u32, word: u32) -> bool {
@@ -29,6 +31,12 @@ pub fn line(json: &Json) -> Result<bool, String> {
     }
     let im_size = im_size(json)?;
     Ok(words.iter().any(|&w| word(im_size, w)))
+}
+
+/// Whether a word of an image file has, as the model loads it.
+pub fn file(bytes: &[u8]) -> bool {
+    let (mut config, mut image) = ([0; 19], vec![0; 32_768]);
+    Model.load(bytes, &mut config, &mut image) == 0 && image[..config[0] as usize].iter().any(|&w| word(config[0], w))
 }
 
 /// Whether a source may name such a target: by digits, or by a label where it has so many lines that one may stand past the image.

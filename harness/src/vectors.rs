@@ -334,9 +334,7 @@ fn images(calls: &dyn Calls, folder: &Path, name: &str, before_k2: bool, report:
     for path in paths {
         let bytes = |path: &Path| std::fs::read(path).map_err(|e| format!("{}: {e}", path.display()));
         let (file, wanted) = (bytes(&path)?, bytes(&path.with_extension("out"))?);
-        let (mut config, mut image) = ([0; 19], vec![0; 32_768]);
-        let loaded = calls.load(&file, &mut config, &mut image) == 0;
-        if before_k2 && loaded && image[..config[0] as usize].iter().any(|&word| superseded::word(config[0], word)) {
+        if before_k2 && superseded::file(&file) {
             report.superseded += 1;
             continue;
         }

@@ -21,7 +21,7 @@ use Rattle.rules.specs.Calls.{callOf, trace}
 use Rattle.rules.specs.Successors.{successors}
 use Rattle.rules.specs.Rules.{rules}
 use Rattle.rules.specs.Check.{firstBroken, checkOf}
-use Rattle.rules.specs.Cases.{CertificateCases, SuccessorCases, CallCases}
+use Rattle.rules.specs.Cases.{CertificateCases, SuccessorCases, TargetCases, CallCases}
 
 pub certificate-cases : CertificateCases
 unfolding pick lawful inRange available marksOf factsFor rows rowAt classOf fieldOf codeAt choices rowIn rowOf flagIn layoutOf upperIn lowerIn valueIn fieldsIn spread fits refusals567 answered partsBy readBy readLawful stackLimit successors rules firstBroken checkOf
@@ -30,6 +30,10 @@ certificate-cases = tt
 pub successor-cases : SuccessorCases
 unfolding pick marksOf factsFor successors
 successor-cases = refl
+
+pub target-cases : TargetCases
+unfolding pick rows rowAt classOf fieldOf codeAt choices rowIn rowOf flagIn layoutOf upperIn lowerIn valueIn fieldsIn spread partsBy partsOf
+target-cases = refl
 
 pub call-cases : CallCases
 unfolding pick lawful inRange available marksOf factsFor rows rowAt classOf fieldOf codeAt choices rowIn rowOf flagIn layoutOf upperIn lowerIn valueIn fieldsIn spread fits refusals567 partsBy partsOf stackLimit inRanges guards operand conditionMet log2 specialRegister jumpPlan branchPlan callPlan retPlan enterSpecialPlan leaveSpecialPlan movePlan portWritePlan planOf stops9to15 stops number putOf applied planAt cyclesOf advanceOf stepOf runOf runCall callOf trace bits one

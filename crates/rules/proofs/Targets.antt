@@ -7,7 +7,7 @@ use native.Mathlib.Omega.{arith}
 use lib.Dec.{T, eqb}
 use lib.ListN.{getD}
 use Rattle.laws.specs.Choice.{pick}
-use Rattle.laws.specs.Test.{if?, test, holds}
+use Rattle.laws.specs.Test.{if?, test, Holds, holds}
 use Rattle.laws.specs.First.{numbered, obeyed}
 use Rattle.words.specs.declared.Config.{Config}
 use Rattle.words.specs.Rows.{rowAt}
@@ -15,16 +15,16 @@ use Rattle.words.specs.Words.{fits, refusals567, answered, partsOf, readBy, rea
 use Rattle.state.proofs.Stops.{a-target}
 use Rattle.rules.specs.Marks.{markAt, used}
 use Rattle.rules.specs.Rules.{rule1, rule2, rule3, rules, readAt, factsAt}
-use Rattle.rules.specs.Claims.{AimsOutside, CaughtBy3}
+use Rattle.rules.specs.Claims.{aimsOutside, CaughtBy3}
 
-unread : (c : Config) (w : ℕ) → AimsOutside c w → readLawful c w .number ≡ 0 → ⊥
+unread : (c : Config) (w : ℕ) → Holds (aimsOutside c w) → readLawful c w .number ≡ 0 → ⊥
 unfolding readLawful readBy partsOf answered refusals567 fits
 unread c w o z =
     let i = partsOf c w in
     let r = rowAt (i .row) in
     let tests = refusals567 c r i in
     let q = obeyed tests (numbered tests tt) z in
-    omega (arith, a-target c (r .value) (i .value) (o .aims) (q .1 .1 .0 .1 .1 .1 .1), o .outside)
+    omega (arith, a-target c (r .value) (i .value) (o .0) (q .1 .1 .0 .1 .1 .1 .1), o .1)
 
 -- the first that fails of a list whose third test fails
 third : (p q r : Bool) (n : ℕ) → (T r → ⊥) → (0 < pick p (pick q (pick r n 3) 2) 1) × (pick p (pick q (pick r n 3) 2) 1 ≤ 3)

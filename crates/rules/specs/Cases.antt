@@ -7,6 +7,7 @@ use lib.Dec.{T, eqb}
 use mathlib.Core.Path.{_≡_}
 use lib.ListN.{length, replicate, set}
 use Rattle.laws.specs.Lists.{column}
+use Rattle.laws.specs.Test.{test}
 use Rattle.words.specs.declared.Config.{Config}
 use Rattle.words.specs.Kinds.{ret, ret-constant, jump, branch, Z, call, move}
 use Rattle.words.specs.Facts.{factsFor}
@@ -15,6 +16,7 @@ use Rattle.rules.specs.Successors.{successor, successors}
 use Rattle.rules.specs.Calls.{Call, step, run, Done, trace}
 use Rattle.rules.specs.Demand.{atReset}
 use Rattle.rules.specs.Check.{Answer, passed, refused, broken, checkOf}
+use Rattle.rules.specs.Claims.{aimsOutside}
 
 -- every option, and a PC_STACK
 abbrev pub small : ℕ → Config
@@ -180,6 +182,14 @@ SuccessorCases =
     (successor 8 false ∷ successor 3 true ∷ []) ∷
     (successor 8 false ∷ []) ∷
     [])
+
+-- Which words `CaughtBy3` speaks of, in an image of 9 words: with target 9 JMP, JMP by Z, JMP by BIO, JSR and JSRWP; not with target 8, nor
+-- JMP @%09 and MOV with an immediate of 9.
+abbrev pub TargetCases : Type 0
+TargetCases =
+    column (λ w. test (aimsOutside (small 4) w))
+    (0xc0000009 ∷ 0xc0800009 ∷ 0xc6000009 ∷ 0xf0800009 ∷ 0xf1020009 ∷ 0xc0000008 ∷ 0xf0800008 ∷ 0xf1020008 ∷ 0xc8090000 ∷ 0xa2860009 ∷ []) ≡
+    (true ∷ true ∷ true ∷ true ∷ true ∷ false ∷ false ∷ false ∷ false ∷ false ∷ [])
 
 -- A list of calls from reset on the program above, with room for one entry in the log: the number that each answers, the PC and the return stack that it
 -- leaves, and how many states it passes through.

@@ -1,10 +1,10 @@
 -- What is proved of the check beside `Exact` and `Demand3`.
 use Prim.Native.Nat.{ℕ, _<_, _≤_}
 use mathlib.Core.Path.{_≡_}
-use mathlib.Core.Logic.{_⊎_}
 use mathlib.Core.List.{List}
 use lib.Dec.{T}
 use lib.ListN.{getD}
+use Rattle.laws.specs.Test.{Test, most, yes?, _and_, _or_, Holds}
 use Rattle.laws.specs.First.{Obeyed}
 use Rattle.words.specs.declared.Config.{Config}
 use Rattle.words.specs.Parts.{target, bank-address, is}
@@ -28,14 +28,16 @@ NamesFirst =
     FirstBroken c image certificate (checkOf c image certificate .address) (checkOf c image certificate .rule)
 
 -- word w has a direct JMP or JSR target, or a JSRWP address, at or above IM_SIZE
-pub record AimsOutside (c : Config) (w : ℕ) : Type 0 where
-  pub aims : T (is (rowAt (partsOf c w .row) .value) target) ⊎ T (is (rowAt (partsOf c w .row) .value) bank-address)
-  pub outside : c .imsize ≤ partsOf c w .value
+abbrev pub aimsOutside : Config → ℕ → Test
+aimsOutside c w =
+    let i = partsOf c w in
+    let p = rowAt (i .row) .value in
+    (yes? (is p target) or yes? (is p bank-address)) and most (c .imsize) (i .value)
 
 -- K2: "rule 3, no longer rule 4, catches such a target": at a used address, 3 is the lowest rule that is broken, or 1 or 2 is.
 abbrev pub CaughtBy3 : Type 0
 CaughtBy3 =
     (c : Config) (image certificate : List ℕ) (a : ℕ) →
     T (used (markAt certificate a)) →
-    AimsOutside c (getD image a 0) →
+    Holds (aimsOutside c (getD image a 0)) →
     (0 < lowest c image certificate a) × (lowest c image certificate a ≤ 3)
