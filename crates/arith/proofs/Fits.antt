@@ -107,8 +107,7 @@ module _ (w d s : ℕ) (h : Words w d s) where
   alu-fits Clz n f = flagged _ _ (le-trans (omega (arith, zeros-le 16 (s / 2 ^ (w - 16)))) room)
   alu-fits (Bst k) n f = flagged _ _ (cut _)
   alu-fits (Bld k) n f = flagged _ _ (le-trans (omega arith) room)
-  alu-fits (Blds k) n f = flagged _ _ (under (2 ^ w) _ (2 ^ w - 256 + s / 2 ^ (8 * (k % 4)) % 256) (s / 2 ^ (8 * (k % 4)) % 256)
-      (λ t. omega (arith, room)) (omega (arith, room)))
+  alu-fits (Blds k) n f = flagged _ _ (cut _)
 
 -- a lawful REG_WIDTH is the width that is computed at
 pub bits-lawful : (w : ℕ) → Member w widths → bits w ≡ w

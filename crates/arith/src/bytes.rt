@@ -2,11 +2,13 @@
 use super::Word;
 use super::width::flag;
 use super::width::power;
+use super::width::truncate;
 use super::width::truncate_wide;
+use std::num::wrapping_add_u32;
 ghost use mathlib.Core.Path.{_≡_};
 ghost use Prim.Native.Nat.{_<_, _≤_};
 ghost use Rattle.arith.specs.Width.{Width};
-ghost use Rattle.arith.specs.Bytes.{ofByte, bstOf, bldOf, extended, bldsOf};
+ghost use Rattle.arith.specs.Bytes.{byte, ofByte, bstOf, bldOf, bldsOf, SignExtended};
 
 // A result whose flags are the source byte's.
 fn of_byte(b: u32, value: u32) -> Word
@@ -39,22 +41,12 @@ pub fn bld_word(k: u32, s: u32) -> Word
     of_byte(b, b)
 }
 
-// The byte with its bit 7 in every bit above it.
-fn sign_extend(w: u32, b: u32) -> u32
-    requires { ⌜ Width w × (b < 256) ⌝ }
-    ensures { λ r. ⌜ r ≡ extended w b ⌝ }
-{
-    if 128 <= b {
-        ((power(w) - 256) + (b as u64)) as u32
-    } else {
-        b
-    }
-}
-
+// "the byte with 128 flipped, less 128, at the word width" (document 02, K3): 128 less is 2^w - 128 more, cut to w bits.
 pub fn blds_word(w: u32, k: u32, s: u32) -> Word
     requires { ⌜ Width w × (k < 4) ⌝ }
-    ensures { λ r. ⌜ r ≡ bldsOf w k s ⌝ }
+    ensures { λ r. ⌜ (r ≡ bldsOf w k s) × SignExtended w (byte k s) (r .value) ⌝ }
 {
     let b = (s >> (8 * k)) % 256;
-    of_byte(b, sign_extend(w, b))
+    let value = truncate(w, wrapping_add_u32(b ^ 128, (power(w) - 128) as u32));
+    of_byte(b, value)
 }

@@ -11,6 +11,7 @@ use Rattle.arith.specs.Width.{bits, one}
 use Rattle.arith.specs.Sums.{addOf, difference, subOf, signed, subsOf}
 use Rattle.arith.specs.Shifts.{shlOf, shrOf}
 use Rattle.arith.specs.Unary.{absOf, leadingZeroBits, clzOf}
+use Rattle.arith.specs.Bytes.{extended, bldsOf}
 use Rattle.arith.specs.Multiply.{mulOf}
 use Rattle.arith.specs.Alu.{aluOf}
 use Rattle.state.specs.State.{stackLimit}
@@ -27,5 +28,5 @@ unfolding pick lawful inRange available marksOf factsFor rows rowAt classOf fiel
 starred-cases = tt
 
 pub right-readings : RightReadings
-unfolding pick lawful inRange available marksOf factsFor rows rowAt classOf fieldOf codeAt choices rowIn rowOf flagIn layoutOf upperIn lowerIn valueIn fieldsIn spread fits refusals567 refusals answered partsBy partsOf readOf gather wordFrom wordOf written writeOf bits one addOf absOf aluOf stackLimit inRanges guards operand computePlan planOf stops9to15 stops number putOf applied planAt cyclesOf advanceOf stepOf
+unfolding pick lawful inRange available marksOf factsFor rows rowAt classOf fieldOf codeAt choices rowIn rowOf flagIn layoutOf upperIn lowerIn valueIn fieldsIn spread fits refusals567 refusals answered partsBy partsOf readOf gather wordFrom wordOf written writeOf bits one addOf difference absOf extended bldsOf aluOf stackLimit inRanges guards operand computePlan planOf stops9to15 stops number putOf applied planAt cyclesOf advanceOf stepOf
 right-readings = tt

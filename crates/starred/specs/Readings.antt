@@ -72,6 +72,11 @@ readings =
     within 65 0xf1020040 0 ∷
     within 6 0xc4000006 6 ∷  -- "7, in its old place": condition 8 is 6
     within 6 0xc6800006 5 ∷  -- condition 13 is 5
+    -- K3: "the byte with 128 flipped, less 128, at the word width"; Z and N are the byte's
+    result (computes 0x98020603 0xffffffff 0x80ff7f00 0 1 0) ∷  -- BLDS0 %02,%03,S
+    result (computes 0x98820603 0xffffffff 0x80ff7f00 0x7f 0 0) ∷  -- BLDS1 %02,%03,S
+    result (computes 0x99020603 0xffffffff 0x80ff7f00 0xffffffff 0 1) ∷  -- BLDS2 %02,%03,S
+    result (computes 0x99820603 0xffffffff 0x80ff7f00 0xffffff80 0 1) ∷  -- BLDS3 %02,%03,S
     []
 
 abbrev pub all-so : List Reading → Bool

@@ -139,7 +139,7 @@ returns-18 c h = rw (c .before .before .op2 .given .1, c .bld-word .ensures)
 
 returns-19 : tie.Need-returns-19
 unfolding aluOf
-returns-19 c h = rw (c .before .before .op3 .given .1, c .blds-word .ensures, c .before .before .before .before .bits-of .ensures .0)
+returns-19 c h = rw (c .before .before .op3 .given .1, c .blds-word .ensures .0, c .before .before .before .before .bits-of .ensures .0)
 
 pub alu-within-spec : {M : Type 1} → statement M
 alu-within-spec =

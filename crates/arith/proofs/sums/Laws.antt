@@ -44,7 +44,7 @@ module _ (w a b c r v : ℕ) (h : Words w a b) (hc : c ≤ 1) (hv : v < 2 ^ 32) 
           wrapped (2 ^ (32 - w) - 1) (omega (arith, m, span w (h .width .most), h .right)) t ∙ sym (mod-eq-of-lt t)
 
 -- flipping the top bit of k + 1 bits
-flip : (k a : ℕ) → a < 2 ^ suc k → bitXor a (2 ^ k) ≡ pick (leb (2 ^ k) a) (a - 2 ^ k) (a + 2 ^ k)
+pub flip : (k a : ℕ) → a < 2 ^ suc k → bitXor a (2 ^ k) ≡ pick (leb (2 ^ k) a) (a - 2 ^ k) (a + 2 ^ k)
 unfolding pick
 flip k a h = go (decLe (2 ^ k) a)
   where
