@@ -27,7 +27,7 @@ const PC: usize = 0;
 const DEPTH: usize = 7;
 const STACK: usize = 17;
 
-fn same<T: PartialEq + std::fmt::Debug>(what: &str, got: T, wanted: T) -> Result<(), String> {
+pub fn same<T: PartialEq + std::fmt::Debug>(what: &str, got: T, wanted: T) -> Result<(), String> {
     if got == wanted {
         Ok(())
     } else {

@@ -6,6 +6,7 @@ pub mod cases;
 pub mod compare;
 pub mod demand;
 pub mod document;
+pub mod document_bytes;
 pub mod document_targets;
 pub mod document_texts;
 pub mod edges;

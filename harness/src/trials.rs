@@ -3,6 +3,7 @@
 use crate::calls::{Calls, State};
 use crate::cases::SUBJECTS;
 use crate::compare::Pair;
+use crate::document_bytes;
 use crate::generate::configs::{self, Size};
 use crate::generate::states;
 use crate::inputs::{Call, Input, Value};
@@ -18,6 +19,8 @@ use crate::shrink::shrink;
 enum Fault {
     /// SUBS takes N the other way round.
     SubsFlag,
+    /// BLDS takes byte 80 for a positive one (K3).
+    SignedByte,
     /// A run of three steps or more counts a cycle too many.
     RunCycle,
     /// Reading takes a direct target at IM_SIZE (K2).
@@ -35,8 +38,11 @@ enum Fault {
 
 struct Wrong(Fault);
 
+const WP: usize = 1;
 const N: usize = 4;
 const SUBS: u32 = 0b00111;
+const LEVEL_2: u32 = 0b10011;
+const BLDS: u32 = 0x06;
 
 /// Writes beside a list, whose neighbours are the guards of the same allocation.
 fn write_beside(list: &[u8], place: isize) {
@@ -60,10 +66,16 @@ impl Calls for Wrong {
     fn step(&self, config: &[u32], image: &[u32], inputs: &[u32], state: State, answers: &mut [u64]) -> u32 {
         let State { machine, registers, memory, log_addresses, log_values } = state;
         let word = machine.first().and_then(|&pc| image.get(pc as usize)).copied().unwrap_or(0);
-        let lent = State { machine: &mut *machine, registers, memory, log_addresses, log_values };
+        let lent = State { machine: &mut *machine, registers: &mut *registers, memory, log_addresses, log_values };
         let number = Model.step(config, image, inputs, lent, answers);
         if self.0 == Fault::SubsFlag && number == 0 && word >> 27 == SUBS {
             machine[N] ^= 1;
+        }
+        if self.0 == Fault::SignedByte && number == 0 && word >> 27 == LEVEL_2 && word >> 8 & 0xff == BLDS {
+            let destination = &mut registers[(machine[WP] + (word >> 16 & 0x7f)) as usize];
+            if [0xff80, 0xffff_ff80].contains(destination) {
+                *destination = 0x80;
+            }
         }
         number
     }
@@ -138,6 +150,12 @@ fn a_wrong_step_is_found_and_made_small() {
     let word = image.strip_prefix("image [").and_then(|rest| rest.strip_suffix("]")).expect("an image");
     assert_eq!(u32::from_str_radix(word, 16).map(|word| word >> 27), Ok(SUBS), "{said}");
     assert!(said.contains("machine[4]: 0x0 and 0x1"), "{said}");
+}
+
+#[test]
+fn a_byte_with_the_wrong_sign_is_found() {
+    let said = document_bytes::run(&Wrong(Fault::SignedByte)).expect_err("the fault is found");
+    assert!(said.starts_with("BLDS0 of 00000080 at W = 16: (0, 80, 0, 1), "), "{said}");
 }
 
 #[test]

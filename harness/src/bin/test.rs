@@ -21,7 +21,8 @@ use yam_harness::seen::{Counts, Seen};
 #[cfg(any(feature = "library", feature = "plain"))]
 use yam_harness::stack;
 use yam_harness::{
-    document, document_targets, document_texts, programs, refusals, signatures, vectors, LIBRARY, LIBRARY_NAME, SHOWN,
+    document, document_bytes, document_targets, document_texts, programs, refusals, signatures, vectors, LIBRARY, LIBRARY_NAME,
+    SHOWN,
 };
 
 /// How much of a difference is printed.
@@ -249,7 +250,12 @@ fn run_document(name: &str, calls: &dyn Calls) -> bool {
         Ok(()) => println!("direct targets by document 02, {name}: as it says"),
         Err(how) => println!("direct targets by document 02, {name}: {how}"),
     }
-    result.is_ok() && texts.is_ok() && targets.is_ok()
+    let bytes = document_bytes::run(calls);
+    match &bytes {
+        Ok(count) => println!("BLDS of every byte by document 02, {name}: all {count} as it says"),
+        Err(how) => println!("BLDS of every byte by document 02, {name}: {how}"),
+    }
+    result.is_ok() && texts.is_ok() && targets.is_ok() && bytes.is_ok()
 }
 
 fn run_refusals(name: &str, calls: &dyn Calls) -> bool {

@@ -14,12 +14,14 @@ enum Bound {
 }
 
 /// The bounds by the names of their cases. Later for the four programs: 44, 37, 39, 40.
-const BOUNDS: [(&str, Bound); 16] = [
+const BOUNDS: [(&str, Bound); 17] = [
     ("run, arithmetic, IM_SIZE 128, a step", Bound::AtMost(49.0)),
     ("run, calls, IM_SIZE 128, a step", Bound::AtMost(40.0)),
     ("run, mover, IM_SIZE 128, a step", Bound::AtMost(43.0)),
     ("run, ports, IM_SIZE 128, a step", Bound::AtMost(43.0)),
     ("run, calls, IM_SIZE 100, a step", Bound::AtMost(40.0)),
+    // 44.8 before K3, which may cost 3%.
+    ("run, byte loads with sign, IM_SIZE 128, a step", Bound::AtMost(46.0)),
     // 177.6 before K2, which may cost ten.
     ("run, each word a JMP to be decoded, IM_SIZE 1500, a step", Bound::AtMost(187.6)),
     (SMALL_STEP, Bound::AtMost(1_200.0)),

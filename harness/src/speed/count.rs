@@ -3,7 +3,7 @@
 
 use super::images::Whole;
 use super::programs::{
-    chain, config, image, narrow_config, program, spread_programs, CHAIN, LONG_IMAGE, NAMES, ODD_IMAGE, SHORT_IMAGE,
+    chain, config, image, narrow_config, program, signed_bytes, spread_programs, CHAIN, LONG_IMAGE, NAMES, ODD_IMAGE, SHORT_IMAGE,
 };
 use super::runs::Work;
 use super::texts::text;
@@ -90,6 +90,7 @@ pub fn cases() -> Vec<Case> {
         list.extend(NAMES.map(|name| steps(name.to_string(), im_size, image(im_size, &[(0, &program(name, 32))]))));
     }
     list.push(steps("calls".to_string(), ODD_IMAGE, image(ODD_IMAGE, &[(0, &program("calls", 32))])));
+    list.push(steps("byte loads with sign".to_string(), SHORT_IMAGE, image(SHORT_IMAGE, &[(0, &signed_bytes())])));
     list.extend(spread_programs().into_iter().map(|(name, image)| steps(name.to_string(), LONG_IMAGE, image)));
     let decoded = What::Steps(Work::new(config(CHAIN, 32), chain(), 0));
     let name = format!("run, each word a JMP to be decoded, IM_SIZE {CHAIN}, a step");

@@ -108,6 +108,19 @@ fn jump(target: u32) -> u32 {
     0xc000_0000 | target
 }
 
+/// BLDS of the four bytes of a word, two of each sign, with the flags updated and left (K3).
+pub fn signed_bytes() -> Vec<u32> {
+    vec![
+        0xa381_80ff, // 00 MOV %01,<80ff
+        0x1701_7f01, // 01 OR %01,>7f01
+        0x9802_0601, // 02 BLDS0 %02,%01,S
+        0x9c83_0601, // 03 BLDS1 %03,%01
+        0x9904_0601, // 04 BLDS2 %04,%01,S
+        0x9d85_0601, // 05 BLDS3 %05,%01
+        jump(2),     // 06 JMP 000002
+    ]
+}
+
 /// A JMP at each address to the next, so that each step decodes a word.
 pub fn chain() -> Vec<u32> {
     (0..CHAIN).map(|address| jump((address + 1) % CHAIN)).collect()
