@@ -23,7 +23,7 @@ use Rattle.rules.specs.Demand.{May, no-data, no-input, no-room, too-long
 use Rattle.rules.specs.Demand as demand
 use Rattle.rules.specs.Invariant.{Invariant}
 use Rattle.rules.proofs.Exact.{exact}
-use Rattle.rules.proofs.Stepping.{start, advanced-keeps, advanced-allowed, low}
+use Rattle.rules.proofs.Stepping.{Allows, start, advanced-keeps, advanced-allowed, low}
 
 -- the level that a pass answers is the level at address 0
 pub passed-level : (c : Config) (image certificate : List ℕ) (l : ℕ) → checkOf c image certificate ≡ passed l → levelOf (markAt certificate 0) ≡ l
@@ -39,6 +39,10 @@ every-last P (x ∷ ss) s h p = (h .0, every-last P ss s (h .1) p)
 zeros-below : (b n : ℕ) → 0 < b → Below b (replicate n 0)
 zeros-below b zero h = tt
 zeros-below b (suc n) h = (h, zeros-below b n h)
+
+-- what a step may answer
+may : {c : Call} → Allows (May c)
+may = record { pass = demand.passes; address = no-data; input = no-input; room = no-room }
 
 module _ (e : Env) (certificate : List ℕ) (ok : Passes (e .config) (e .image) certificate) where
   abbrev Low : State → Type 0
@@ -58,7 +62,7 @@ module _ (e : Env) (certificate : List ℕ) (ok : Passes (e .config) (e .image) 
       let h = run-well c k (o .state) (advanced-keeps e certificate ok s v) in
       either (Well c) (eqb (o .number) 0) (after s (o .cycles) (runOf k e (o .state))) (ended (o .number) s)
       (λ t. record { number = h .number; seen = (low e certificate ok s v, h .seen); last = h .last })
-      (λ f. record { number = advanced-allowed e certificate ok s v (May c) demand.passes no-data no-input no-room; seen = tt; last = v })
+      (λ f. record { number = advanced-allowed e certificate ok s v (May c) may; seen = tt; last = v })
 
   -- so does a run call: of 1, 2, 3 and 16 only 16 can refuse it, where its budget is too large
   budget-allowed : (budget : ℕ) → May (run budget) (first-failing ((16, budgetFits budget) ∷ []))
@@ -93,7 +97,7 @@ module _ (e : Env) (certificate : List ℕ) (ok : Passes (e .config) (e .image) 
       (record {
         fine =
             record {
-              answer = advanced-allowed e certificate ok s v (May step) demand.passes no-data no-input no-room;
+              answer = advanced-allowed e certificate ok s v (May step) may;
               stack = (low e certificate ok s v, (low e certificate ok (advanceOf e s .state) w, tt));
             };
         last = w;

@@ -29,6 +29,13 @@ use Rattle.rules.proofs.Moves.{MovesBy, planned, bank-barred, back-barr
 use Rattle.rules.proofs.Kept.{Kept, kept-rules, passes-567, seen-reading}
 use Rattle.rules.proofs.Control.{moved-control}
 
+-- P allows a pass and the numbers that no certificate rules out
+pub record Allows (P : ℕ → Type 0) : Type 0 where
+  pub pass : P 0
+  pub address : P 13
+  pub input : P 14
+  pub room : P 15
+
 module _ (e : Env) (certificate : List ℕ) (ok : Passes (e .config) (e .image) certificate) where
   law : Bounds (e .config)
   law = bounds (e .config) (ok .lawful)
@@ -60,9 +67,9 @@ module _ (e : Env) (certificate : List ℕ) (ok : Passes (e .config) (e .image) 
     reads = passes-567 (e .config) (e .image) certificate pc rules-here (v .control .here .used)
 
     -- each stop is passed, or its number is one of those that P allows
-    pub stops-hold : (P : ℕ → Type 0) → P 13 → P 14 → P 15 → Every (λ r. Holds (r .1) ⊎ P (r .0)) (stops e s)
+    pub stops-hold : (P : ℕ → Type 0) → Allows P → Every (λ r. Holds (r .1) ⊎ P (r .0)) (stops e s)
     unfolding stops refusals567 stops9to15
-    stops-hold P x y z =
+    stops-hold P a =
         let p = v .control .here in
         let k = keeps in
         let r = reads in
@@ -76,9 +83,9 @@ module _ (e : Env) (certificate : List ℕ) (ok : Passes (e .config) (e .image) 
         inl (λ t. omega (arith, lower t, p .level, top-level)) also
         inl (λ t. omega (arith, k .return-mark t, p .sub)) also
         inl ((λ t. absurd (k .free (bank-barred n (r .0) t))) also (λ t. absurd (k .free (back-barred n (r .0) t)))) also
-        inr x also
-        inr y also
-        inr z also
+        inr (a .address) also
+        inr (a .input) also
+        inr (a .room) also
         tt
       where
         special : Holds (stop8 (s .core .mode) (partsAt e s .source) (factsAt e s))
@@ -97,9 +104,9 @@ module _ (e : Env) (certificate : List ℕ) (ok : Passes (e .config) (e .image) 
             (v .control .quiet (eqb→eq (s .core .posted) 1 (and-right a b t))
             (seen-reading (e .config) (e .image) certificate pc rules-here (v .control .here .used) (and-left a b t)))
 
-    pub number-allowed : (P : ℕ → Type 0) → P 0 → P 13 → P 14 → P 15 → P (number e s)
+    pub number-allowed : (P : ℕ → Type 0) → Allows P → P (number e s)
     unfolding number
-    number-allowed P o x y z = allowed P (stops e s) o (stops-hold P x y z)
+    number-allowed P a = allowed P (stops e s) (a .pass) (stops-hold P a)
 
     -- the change that a step carries out
     moves : MovesBy (factsAt e s) (partsAt e s .value) (s .core) (s .stack) (planAt e s)
@@ -124,11 +131,11 @@ module _ (e : Env) (certificate : List ℕ) (ok : Passes (e .config) (e .image) 
     advanced-keeps =
         record { control = advanced-control; valid = valid e (advanceOf e s .state) (stays-good e s (good e s (v .valid))) }
 
-    pub advanced-allowed : (P : ℕ → Type 0) → P 0 → P 13 → P 14 → P 15 → P (advanceOf e s .number)
+    pub advanced-allowed : (P : ℕ → Type 0) → Allows P → P (advanceOf e s .number)
     unfolding advanceOf
-    advanced-allowed P o x y z =
-        either (λ (r : Outcome). P (r .number)) (eqb (number e s) 0) _ (refused (number e s) s) (λ t. o)
-        (λ f. number-allowed P o x y z)
+    advanced-allowed P a =
+        either (λ (r : Outcome). P (r .number)) (eqb (number e s) 0) _ (refused (number e s) s) (λ t. a .pass)
+        (λ f. number-allowed P a)
 
     -- the return stack
     pub low : s .core .depth ≤ levelOf (markAt certificate 0)

@@ -10,7 +10,6 @@ use lib.Dec.{T, eqb}
 use lib.ListN.{length, getD}
 use Rattle.laws.specs.Choice.{pick, either}
 use Rattle.laws.specs.Test.{eq→eqb, Holds}
-use Rattle.laws.specs.First.{Obeyed}
 use Rattle.laws.specs.Cells.{below-at, below-above, below-from}
 use Rattle.words.specs.declared.Config.{Config}
 use Rattle.words.specs.declared.Instruction.{Instruction}
@@ -30,11 +29,11 @@ use Rattle.state.specs.State.{Env, State, top, stackLimit}
 use Rattle.state.specs.Cores.{at, flagged, off, write, change, moved, toRegister, toMemory}
 use Rattle.state.specs.Operands.{View, viewOf, cell, register, dataAddress, constant, conditionMet, specialRegister}
 use Rattle.state.specs.Plans.{advanced, contextOf, registerTarget, D, S, X, M, result, comparePlan, computePlan, multiplyPlan, loadIndexPlan, indexCore, indexStorePlan, indexLoadPlan, movePlan, loadConstantPlan, loadRegisterPlan, loadDirectPlan, storeRegisterPlan, storeDirectPlan, portReadPlan, portWritePlan, portModifyPlan, jumpPlan, branched, branchPlan, jumpRegisterPlan, branchRegisterPlan, called, callPlan, callRegisterPlan, newest, returned, retPlan, retConstantPlan, enterBankPlan, leaveBankPlan, enterSpecialPlan, leaveSpecialPlan, planOf}
-use Rattle.state.specs.Stops.{stops9to15, partsAt, kindAt}
+use Rattle.state.specs.Stops.{partsAt, kindAt}
 use Rattle.state.specs.Step.{putOf, planAt}
 use Rattle.state.specs.Good.{Indices, InBank, Posted, Ranged, Good}
 use Rattle.state.proofs.Ranges.{Bounds, bounds, top-byte}
-use Rattle.state.proofs.Stops.{tells, a-register, a-target, an-address, with-banks, Told, told-value}
+use Rattle.state.proofs.Stops.{tells, a-register, a-target, an-address, with-banks, Passed, Told, told-value}
 use Rattle.state.proofs.Cores.{kept-at, kept-banked, kept-indexed, kept-flagged, kept-multiplied, kept-deep, kept-masked, kept-posting, kept-taking, kept-logging}
 use Rattle.state.specs.Landing.{Inside}
 use Rattle.state.proofs.Step.{Small, Sound}
@@ -347,8 +346,8 @@ module _ (e : Env) (s : State) (g : Good e s) where
         moved-sound (kept-masked onward (record { now = g .core .masks .kept; kept = g .core .masks .kept; special = omega arith })) refl
 
     -- whatever the kind
-    by-kind : (k : Kind) → Holds (tells k r) → Obeyed (stops9to15 v i (factsFor k)) → Sound e s (planOf v i k)
-    unfolding tells stops9to15 factsFor marksOf planOf jumpPlan branchPlan jumpRegisterPlan branchRegisterPlan callPlan callRegisterPlan retPlan retConstantPlan
+    by-kind : (k : Kind) → Holds (tells k r) → Passed v i (factsFor k) → Sound e s (planOf v i k)
+    unfolding tells factsFor marksOf planOf jumpPlan branchPlan jumpRegisterPlan branchRegisterPlan callPlan callRegisterPlan retPlan retConstantPlan
     by-kind unsupported p q = moved-sound onward refl
     by-kind (compute o x) p q = compute-sound o x p
     by-kind (compare o x) p q = compare-sound o x
@@ -360,28 +359,28 @@ module _ (e : Env) (s : State) (g : Good e s) where
           x = a-register c (r .source) (i .source) (p .1) fits-source;
           y = a-register c (r .destination) (i .destination) (p .0) fits-destination;
         })
-    by-kind index-store p q = index-store-sound (q .1 .1 .1 .1 .0 .1 tt)
+    by-kind index-store p q = index-store-sound (q .address .1 tt)
     by-kind index-load p q = index-load-sound
     by-kind move p q = move-sound p
     by-kind (load-constant f) p q = load-constant-sound f p
     by-kind load-register p q = load-register-sound p
     by-kind load-direct p q = load-direct-sound p
-    by-kind store-register p q = store-register-sound (q .1 .1 .1 .1 .0 .1 tt)
+    by-kind store-register p q = store-register-sound (q .address .1 tt)
     by-kind store-direct p q = store-direct-sound (an-address c (r .value) (i .value) p fits-value)
-    by-kind port-read p q = port-read-sound (q .1 .1 .1 .1 .1 .0 tt) p
-    by-kind port-modify p q = port-modify-sound (q .1 .1 .1 .1 .1 .0 tt) (q .1 .1 .1 .1 .1 .1 .0 tt) p
-    by-kind (port-write x) p q = port-write-sound x (q .1 .1 .1 .1 .1 .1 .0 tt)
+    by-kind port-read p q = port-read-sound (q .input tt) p
+    by-kind port-modify p q = port-modify-sound (q .input tt) (q .room tt) p
+    by-kind (port-write x) p q = port-write-sound x (q .room tt)
     by-kind jump p q = jump-sound (direct-target p)
     by-kind (branch k) p q = branch-sound k (i .value) (direct-target p)
     by-kind jump-register p q = jump-sound register-target
     by-kind (branch-register k) p q = branch-sound k (registerTarget (D v i)) register-target
-    by-kind call p q = call-sound (i .value) (q .1 .0 tt) (direct-target p)
-    by-kind call-register p q = call-sound (registerTarget (D v i)) (q .1 .0 tt) register-target
-    by-kind ret p q = ret-sound (q .1 .1 .0 tt) no-write nowhere
-    by-kind ret-constant p q = ret-sound (q .1 .1 .0 tt) (wrote (constant-word _ _)) (landed (assigned p))
+    by-kind call p q = call-sound (i .value) (q .not-full tt) (direct-target p)
+    by-kind call-register p q = call-sound (registerTarget (D v i)) (q .not-full tt) register-target
+    by-kind ret p q = ret-sound (q .not-empty tt) no-write nowhere
+    by-kind ret-constant p q = ret-sound (q .not-empty tt) (wrote (constant-word _ _)) (landed (assigned p))
     by-kind enter-bank p q =
-        enter-bank-sound (a-target c (r .value) (i .value) (inr (p .0)) fits-value) (q .1 .1 .1 .0 .0 tt) (with-banks c (r .option) (p .1) (t .option))
-    by-kind leave-bank p q = leave-bank-sound (q .1 .1 .1 .0 .1 tt)
+        enter-bank-sound (a-target c (r .value) (i .value) (inr (p .0)) fits-value) (q .bank .0 tt) (with-banks c (r .option) (p .1) (t .option))
+    by-kind leave-bank p q = leave-bank-sound (q .bank .1 tt)
     by-kind enter-special p q = enter-special-sound
     by-kind leave-special p q = leave-special-sound
 

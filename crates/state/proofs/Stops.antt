@@ -10,14 +10,16 @@ use Rattle.laws.specs.Test.{Test, yes?, _and_, test, Holds, holds}
 use Rattle.laws.specs.First.{numbered, Obeyed, obeyed}
 use Rattle.laws.specs.Table.{every, at-every}
 use Rattle.words.specs.declared.Config.{Config}
+use Rattle.words.specs.declared.Instruction.{Instruction}
+use Rattle.words.specs.declared.Facts.{Facts}
 use Rattle.words.specs.Parts.{Part, Part-discrete, register, write-address, target, bank-address, is, inRange}
 use Rattle.words.specs.Parts.{Option, Option-discrete, banks, needs, available}
 use Rattle.words.specs.Kinds.{Kind, unsupported, compute, compare, multiply, bytewise, load-index, index-store, index-load, move, load-constant, load-register, load-direct, store-register, store-direct, port-read, port-modify, port-write, jump, branch, jump-register, branch-register, call, call-register, ret, ret-constant, enter-bank, leave-bank, enter-special, leave-special}
 use Rattle.words.specs.Rows.{Row, rows, rowCount, rowAt}
 use Rattle.words.specs.Words.{fits, refusals567}
 use Rattle.state.specs.State.{Env, State}
-use Rattle.state.specs.Operands.{viewOf}
-use Rattle.state.specs.Stops.{stops, stops9to15, partsAt, kindAt, factsAt}
+use Rattle.state.specs.Operands.{View, viewOf}
+use Rattle.state.specs.Stops.{stop9, stop10, stop11, stop12, stop13, stop14, stop15, stops, stops9to15, partsAt, kindAt, factsAt}
 use Rattle.state.specs.Step.{number}
 
 -- what parts a row of each kind has
@@ -87,13 +89,36 @@ pub with-banks : (c : Config) (o : Option) → T (needs o banks) → Holds (avai
 unfolding available
 with-banks c o t h = rw (decided-yes (Option-discrete o banks) t) at h
 
+-- what 9 to 15 let pass, by name: proofs go by these, whatever the order of the list
+pub record Passed (v : View) (i : Instruction) (f : Facts) : Type 0 where
+  pub quiet : Holds (stop9 v i f)
+  pub not-full : Holds (stop10 v i f)
+  pub not-empty : Holds (stop11 v i f)
+  pub bank : Holds (stop12 v i f)
+  pub address : Holds (stop13 v i f)
+  pub input : Holds (stop14 v i f)
+  pub room : Holds (stop15 v i f)
+
+passed : (v : View) (i : Instruction) (f : Facts) → Obeyed (stops9to15 v i f) → Passed v i f
+unfolding stops9to15
+passed v i f p =
+    record {
+      quiet = p .0;
+      not-full = p .1 .0;
+      not-empty = p .1 .1 .0;
+      bank = p .1 .1 .1 .0;
+      address = p .1 .1 .1 .1 .0;
+      input = p .1 .1 .1 .1 .1 .0;
+      room = p .1 .1 .1 .1 .1 .1 .0;
+    }
+
 pub record Told (e : Env) (s : State) : Type 0 where
   pub pc : s .core .pc < e .config .imsize
   pub row : partsAt e s .row < rowCount
   pub option : Holds (available (e .config) (rowAt (partsAt e s .row) .option))
   pub fit : Holds (fits (e .config) (rowAt (partsAt e s .row)) (partsAt e s))
   pub parts : Holds (tells (kindAt e s) (rowAt (partsAt e s .row)))
-  pub stops : Obeyed (stops9to15 (viewOf e s) (partsAt e s) (factsAt e s))
+  pub stops : Passed (viewOf e s) (partsAt e s) (factsAt e s)
 
 -- the value of the word at PC is in its range
 pub told-value : (e : Env) (s : State) → Told e s → Holds (inRange (e .config) (rowAt (partsAt e s .row) .value) (partsAt e s .value))
@@ -110,5 +135,5 @@ told e s h =
       option = p .1 .1 .0;
       fit = p .1 .1 .1 .0;
       parts = row-tells (partsAt e s .row) (p .1 .0);
-      stops = p .1 .1 .1 .1 .1;
+      stops = passed (viewOf e s) (partsAt e s) (factsAt e s) (p .1 .1 .1 .1 .1);
     }
