@@ -26,6 +26,7 @@ MARKS = [
     ('enters-bank', 'tobank', 'JSRWP'),
     ('leaves-bank', 'frombank', 'RETWP'),
     ('barred', 'barred', "barred by the certificate's rule 3"),
+    ('by-index', 'index', 'moves the register that RX names: MOVX'),
 ]
 
 # The second operand: name, argument, its column and what that holds, how the manual writes it.
@@ -45,8 +46,8 @@ KINDS = [
     ('multiply', 'Operand', ALU, 'goes-on', 'MUL'),
     ('bytewise', '(ℕ→Operation)', ALU + ' number=byte source=register', 'goes-on', 'BST, BLD, BLDS: the operation of the byte number'),
     ('load-index', '', ALU + ' source=register', 'goes-on', 'LDYX'),
-    ('index-store', '', ALU, 'goes-on stores by-register', 'MOVX to DM'),
-    ('index-load', '', 'flag=flag source=register', 'goes-on loads by-register', 'MOVX from DM'),
+    ('index-store', '', ALU, 'goes-on stores by-register by-index', 'MOVX to DM'),
+    ('index-load', '', 'flag=flag source=register', 'goes-on loads by-register by-index', 'MOVX from DM'),
     ('move', '', BOTH, 'goes-on reveals', 'MOV %d,%s'),
     ('load-constant', 'Form', TO + ' value=immediate', 'goes-on', 'MOV %d,immediate'),
     ('load-register', '', BOTH, 'goes-on loads by-register', 'MOV %d,@%s'),

@@ -48,7 +48,10 @@ fn places_fit(c: Config, m: Core) -> bool
 {
     let bank = sum_within(m.wp, c.regsize, c.rmsize);
     let size = c.regsize as usize;
-    (m.pc < Machine::PC_LIMIT) & ((m.wp % 16 == 0) & (bank & ((m.rx < size) & (m.ry < size))))
+    let unloaded = !(m.loaded == 0) | ((m.rx == 0) & (m.ry == 0));
+    (m.pc < Machine::PC_LIMIT)
+        & ((m.wp % 16 == 0)
+            & (bank & ((m.rx < size) & ((m.ry < size) & ((m.loaded <= 1) & unloaded)))))
 }
 
 fn marks_fit(c: Config, m: Core) -> bool

@@ -30,7 +30,7 @@ abbrev pub unless : List (ℕ × Test) → Core → Change → Change
 unless [] m x = x
 unless (r ∷ rs) m x = pick (test (r .1)) (unless rs m x) (stopped m (r .0))
 
--- the instruction's part of a step: stops 9 to 15, and the plan
+-- the instruction's part of a step: stops 9 to 15 and 27, and the plan
 unfoldable pub act : View → Instruction → Kind → Change
 act v i k = unless (stops9to15 v i (factsFor k)) (v .core) (planOf v i k)
 

@@ -88,7 +88,7 @@ fn by_value(m: Core, registers: &[u32], x: u64) -> Operands
     Operands { at, d, x: v }
 }
 
-// The change that the word of cell x makes, or its stop, 9 to 15, or that it is made apart; `limit` is the return stack's.
+// The change that the word of cell x makes, or its stop, 9 to 15 or 27, or that it is made apart; `limit` is the return stack's.
 pub fn exec(
     c: Config,
     limit: usize,

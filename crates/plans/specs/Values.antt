@@ -26,7 +26,7 @@ onward m = went m (up (m .pc))
 
 -- state's `advanced`, in 64 bits
 unfoldable pub further : Config → Core → Core
-further c m = indexed m (pick (eqb (up (m .rx)) (c .regsize)) 0 (up (m .rx))) (m .ry)
+further c m = indexed m (m .loaded) (pick (eqb (up (m .rx)) (c .regsize)) 0 (up (m .rx))) (m .ry)
 
 abbrev pub operands : ℕ → ℕ → ℕ → Operands
 operands at d x = record { at = at; d = d; x = x }

@@ -1,6 +1,7 @@
 // What an instruction of each kind changes, from the values that it reads; its own stops are tested here.
 ghost use mathlib.Core.Path.{_≡_};
 ghost use Prim.Native.Nat.{_+_, _-_, _*_, _/_, _%_};
+ghost use mathlib.Core.Bool.{not};
 ghost use lib.Dec.{ltb, leb, eqb};
 ghost use lib.ListN.{getD, length};
 ghost use Rattle.laws.specs.Choice.{pick as choice};
@@ -72,29 +73,32 @@ pub fn multiply(c: Config, m: Core, t: Operands) -> Change
 
 // LDYX: x is RX, y is RY.
 pub fn load_index(m: Core, bit26: u32, x: u32, y: u32) -> Change
-    ensures { λ r. ⌜ r ≡ moved (flagged (indexed (onward m) x y) bit26 (flag (eqb x y)) 0) ⌝ }
+    ensures { λ r. ⌜ r ≡ moved (flagged (indexed (onward m) 1 x y) bit26 (flag (eqb x y)) 0) ⌝ }
 {
-    next(m).indexed(x as usize, y as usize)
+    next(m).indexed(1, x as usize, y as usize)
         .flagged(bit26, one(x == y), 0)
         .moved()
 }
 
-// RX one further, and the flags of MOVX, from RX as it was.
+// RX one further, the mark of an LDYX as it was, and the flags of MOVX, from RX as it was.
 fn index_core(c: Config, m: Core, bit26: u32) -> Core
     ensures { λ r. ⌜ r ≡ flagged (further c (onward m)) bit26 (flag (eqb (m .rx) (m .ry))) 0 ⌝ }
 {
     let x = std::num::wrapping_add_usize(m.rx, 1);
     let equal = one(m.rx == m.ry);
     if x == c.regsize as usize {
-        return next(m).indexed(0, m.ry).flagged(bit26, equal, 0);
+        return next(m).indexed(m.loaded, 0, m.ry).flagged(bit26, equal, 0);
     }
-    next(m).indexed(x, m.ry).flagged(bit26, equal, 0)
+    next(m).indexed(m.loaded, x, m.ry).flagged(bit26, equal, 0)
 }
 
-// MOVX to DM: a is the address register's value, x the value of the register that RX names.
+// MOVX to DM: a is the address register's value, x the value of the register that RX names. 27 before an LDYX, then 13.
 pub fn index_store(c: Config, m: Core, bit26: u32, a: u32, x: u32) -> Change
-    ensures { λ r. ⌜ r ≡ choice (ltb (dataAddress a) (c .dmsize)) (toMemory (flagged (further c (onward m)) bit26 (flag (eqb (m .rx) (m .ry))) 0) (dataAddress a) x) (stopped m 13) ⌝ }
+    ensures { λ r. ⌜ r ≡ choice (not (eqb (m .loaded) 0)) (choice (ltb (dataAddress a) (c .dmsize)) (toMemory (flagged (further c (onward m)) bit26 (flag (eqb (m .rx) (m .ry))) 0) (dataAddress a) x) (stopped m 13)) (stopped m 27) ⌝ }
 {
+    if m.loaded == 0 {
+        return m.stopped(27);
+    }
     let t = a % DATA_ADDRESSES;
     if t < c.dmsize {
         return index_core(c, m, bit26).to_memory(t as usize, x);
@@ -104,8 +108,11 @@ pub fn index_store(c: Config, m: Core, bit26: u32, a: u32, x: u32) -> Change
 
 // MOVX from DM: i is the cell of the register that RX names.
 pub fn index_load(c: Config, m: Core, bit26: u32, a: u32, i: usize, memory: &[u32]) -> Change
-    ensures { λ r. ⌜ r ≡ choice (ltb (dataAddress a) (length (now (memory .entry)))) (toRegister (flagged (further c (onward m)) bit26 (flag (eqb (m .rx) (m .ry))) 0) i (getD (now (memory .entry)) (dataAddress a) 0)) (stopped m 13) ⌝ }
+    ensures { λ r. ⌜ r ≡ choice (not (eqb (m .loaded) 0)) (choice (ltb (dataAddress a) (length (now (memory .entry)))) (toRegister (flagged (further c (onward m)) bit26 (flag (eqb (m .rx) (m .ry))) 0) i (getD (now (memory .entry)) (dataAddress a) 0)) (stopped m 13)) (stopped m 27) ⌝ }
 {
+    if m.loaded == 0 {
+        return m.stopped(27);
+    }
     let t = (a % DATA_ADDRESSES) as usize;
     if t < memory.len() {
         return index_core(c, m, bit26).to_register(i, value_at(memory, t));

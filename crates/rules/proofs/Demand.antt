@@ -19,7 +19,7 @@ use Rattle.state.proofs.Ranges.{bounds, top-byte, good, valid, passes}
 use Rattle.rules.specs.Marks.{markAt, levelOf}
 use Rattle.rules.specs.Check.{checkOf, passed, Passes}
 use Rattle.rules.specs.Calls.{Call, step, run, Done, callOf, trace}
-use Rattle.rules.specs.Demand.{May, no-data, no-input, no-room, too-long, Fine, atReset, Demand3}
+use Rattle.rules.specs.Demand.{May, no-data, no-input, no-room, not-loaded, too-long, Fine, atReset, Demand3}
 use Rattle.rules.specs.Demand as demand
 use Rattle.rules.specs.Invariant.{Invariant}
 use Rattle.rules.proofs.Exact.{exact}
@@ -42,7 +42,7 @@ zeros-below b (suc n) h = (h, zeros-below b n h)
 
 -- what a step may answer
 may : {c : Call} → Allows (May c)
-may = record { pass = demand.passes; address = no-data; input = no-input; room = no-room }
+may = record { pass = demand.passes; address = no-data; input = no-input; room = no-room; index = not-loaded }
 
 module _ (e : Env) (certificate : List ℕ) (ok : Passes (e .config) (e .image) certificate) where
   abbrev Low : State → Type 0
@@ -138,7 +138,13 @@ module _ (e : Env) (certificate : List ℕ) (ok : Passes (e .config) (e .image) 
               record {
                 pc = omega arith;
                 bank = record { whole = refl; inside = omega (arith, b .one-bank) };
-                indices = record { x = omega (arith, b .registers-some); y = omega (arith, b .registers-some) };
+                indices =
+                    record {
+                      x = omega (arith, b .registers-some);
+                      y = omega (arith, b .registers-some);
+                      mark = omega arith;
+                      none = λ z. (refl, refl);
+                    };
                 flags = record { negative = omega arith; zero = omega arith };
                 high = record { word = w; none = λ z. refl };
                 depth = omega arith;

@@ -1,4 +1,4 @@
--- In a state of the invariant a step can be stopped only by 13, 14 and 15, and it keeps the invariant.
+-- In a state of the invariant a step can be stopped only by 13, 14, 15 and 27, and it keeps the invariant.
 -- Assumes nothing.
 use Prim.Native.Nat.{ℕ, _+_, _<_, _≤_}
 use mathlib.Core.Path.{_≡_}
@@ -35,6 +35,7 @@ pub record Allows (P : ℕ → Type 0) : Type 0 where
   pub address : P 13
   pub input : P 14
   pub room : P 15
+  pub index : P 27
 
 module _ (e : Env) (certificate : List ℕ) (ok : Passes (e .config) (e .image) certificate) where
   law : Bounds (e .config)
@@ -80,6 +81,7 @@ module _ (e : Env) (certificate : List ℕ) (ok : Passes (e .config) (e .image) 
         inl (r .1 .1 .0) also
         inl special also
         inl no-reading also
+        inr (a .index) also
         inl (λ t. omega (arith, lower t, p .level, top-level)) also
         inl (λ t. omega (arith, k .return-mark t, p .sub)) also
         inl ((λ t. absurd (k .free (bank-barred n (r .0) t))) also (λ t. absurd (k .free (back-barred n (r .0) t)))) also

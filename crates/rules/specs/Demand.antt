@@ -11,12 +11,13 @@ use Rattle.rules.specs.Check.{checkOf, passed}
 use Rattle.rules.specs.Calls.{Call, run, Done, trace}
 
 -- what a call may answer: it passes, or stops "by a data address taken from a register (13), a missing reading (14) or a full log (15); a run may
--- also be refused by 16"
+-- also be refused by 16"; and by 27: "Demand 3's possible stops gain this one" (document 02, K4)
 pub data May : Call → ℕ → Type 0 where
   passes : {c : Call} → May c 0
   no-data : {c : Call} → May c 13
   no-input : {c : Call} → May c 14
   no-room : {c : Call} → May c 15
+  not-loaded : {c : Call} → May c 27
   too-long : {b : ℕ} → 1000000 < b → May (run b) 16
 
 -- a call and what it came to: its answer is allowed, and the return stack never holds more than l addresses, "not even within a run"

@@ -17,7 +17,7 @@ use Rattle.arith.specs.Alu.{aluOf}
 use Rattle.state.specs.State.{stackLimit}
 use Rattle.state.specs.Ranges.{inRanges, guards}
 use Rattle.state.specs.Operands.{operand}
-use Rattle.state.specs.Plans.{computePlan, multiplyPlan, contextOf, enterBankPlan, planOf}
+use Rattle.state.specs.Plans.{advanced, computePlan, multiplyPlan, loadIndexPlan, indexStorePlan, indexLoadPlan, loadRegisterPlan, contextOf, enterBankPlan, planOf}
 use Rattle.state.specs.Stops.{stops9to15, stops}
 use Rattle.state.specs.Step.{number, putOf, applied, planAt, cyclesOf, advanceOf, stepOf}
 use Rattle.starred.specs.Cases.{StarredCases}
@@ -28,5 +28,5 @@ unfolding pick lawful inRange available marksOf factsFor rows rowAt classOf fiel
 starred-cases = tt
 
 pub right-readings : RightReadings
-unfolding pick lawful inRange available marksOf factsFor rows rowAt classOf fieldOf codeAt choices rowIn rowOf flagIn layoutOf upperIn lowerIn valueIn fieldsIn spread fits refusals567 refusals answered partsBy partsOf readOf gather wordFrom wordOf written writeOf bits one addOf difference absOf extended bldsOf aluOf stackLimit inRanges guards operand computePlan planOf stops9to15 stops number putOf applied planAt cyclesOf advanceOf stepOf
+unfolding pick lawful inRange available marksOf factsFor rows rowAt classOf fieldOf codeAt choices rowIn rowOf flagIn layoutOf upperIn lowerIn valueIn fieldsIn spread fits refusals567 refusals answered partsBy partsOf readOf gather wordFrom wordOf written writeOf bits one addOf difference absOf extended bldsOf aluOf stackLimit inRanges guards operand computePlan loadIndexPlan advanced indexStorePlan indexLoadPlan loadRegisterPlan planOf stops9to15 stops number putOf applied planAt cyclesOf advanceOf stepOf
 right-readings = tt

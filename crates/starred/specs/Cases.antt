@@ -55,6 +55,7 @@ coreAt pc wp n z spr7 =
       wp = wp;
       rx = 0;
       ry = 0;
+      loaded = 0;
       n = n;
       z = z;
       spr7 = spr7;
@@ -94,7 +95,7 @@ equal (x ∷ l) (y ∷ m) = eqb x y && equal l m
 -- every part of a core
 abbrev pub numbers : Core → List ℕ
 numbers m =
-    m .pc ∷ m .wp ∷ m .rx ∷ m .ry ∷ m .n ∷ m .z ∷ m .spr7 ∷ m .depth ∷ m .imask ∷ m .saved ∷ m .mode ∷ m .posted ∷ m .port ∷ m .taken ∷ m .logged ∷ []
+    m .pc ∷ m .wp ∷ m .rx ∷ m .ry ∷ m .loaded ∷ m .n ∷ m .z ∷ m .spr7 ∷ m .depth ∷ m .imask ∷ m .saved ∷ m .mode ∷ m .posted ∷ m .port ∷ m .taken ∷ m .logged ∷ []
 
 -- the outcome is a pass in two cycles that leaves t: the same in every part
 abbrev pub leaves : Outcome → State → Bool

@@ -6,13 +6,22 @@ use lib.Dec.{T, eqb}
 use Rattle.laws.specs.Choice.{pick}
 use Rattle.words.specs.Words.{partsOf, readOf, writeOf}
 use Rattle.words.specs.Facts.{factsOf}
-use Rattle.starred.specs.Cases.{sized, configured, full, pair, stepped, leaves, Case, answers, computes, right}
+use Rattle.state.specs.declared.Core.{Core}
+use Rattle.state.specs.State.{State}
+use Rattle.state.specs.Cores.{_but_≔_, RX, RY, LOADED}
+use Rattle.starred.specs.Cases.{sized, configured, full, coreAt, around, holding, pair, stepped, leaves, Case, answers, computes, right}
+
+-- PC, the mark of an LDYX, RX and RY, and what %05 holds; W 32, DM_SIZE 20 hex
+abbrev pub pointing : ℕ → ℕ → ℕ → ℕ → ℕ → State
+pointing pc loaded x y a = around full (coreAt pc 0 0 0 0 but LOADED ≔ loaded but RX ≔ x but RY ≔ y) (holding full 5 a)
 
 pub data Reading : Type 0 where
   result : Case → Reading
   keeps : ℕ → ℕ → ℕ → ℕ → ℕ → ℕ → Reading  -- a word, %02 and %03 before it; %02 after it, Z and N before and after it
   parts : ℕ → ℕ → ℕ → ℕ → Reading  -- a word, and its destination, source and value as they are read
   bars : ℕ → ℕ → Reading  -- a word, and 1 where rule 3 bars its instruction
+  points : ℕ → ℕ → ℕ → ℕ → ℕ → ℕ → Reading  -- a word; the mark, RX, RY and what %05 holds before it; the number that its step answers
+  loads : ℕ → ℕ → ℕ → Reading  -- a word, and what it leaves in RX and RY, the mark 1 whatever it was
   within : ℕ → ℕ → ℕ → Reading  -- a word in an image of so many words, and the number that reading it answers, and writing its parts
 
 abbrev pub so : Reading → Bool
@@ -25,6 +34,8 @@ so (parts w d s v) =
 so (within size w n) =
     let c = sized size 32 64 2 32 in
     eqb (readOf c w .number) n && eqb (writeOf c (partsOf c w) .number) n
+so (points w loaded x y a n) = eqb (stepped full w (pointing 0 loaded x y a) .number) n
+so (loads w x y) = leaves (stepped full w (pointing 0 0 0 0 0)) (pointing 1 1 x y 0) && leaves (stepped full w (pointing 0 1 3 3 0)) (pointing 1 1 x y 0)
 so (bars w x) = eqb (readOf full w .number) 0 && eqb (pick (factsOf (partsOf full w .row) .barred) 1 0) x
 
 abbrev pub readings : List Reading
@@ -77,6 +88,22 @@ readings =
     result (computes 0x98820603 0xffffffff 0x80ff7f00 0x7f 0 0) ∷  -- BLDS1 %02,%03,S
     result (computes 0x99020603 0xffffffff 0x80ff7f00 0xffffffff 0 1) ∷  -- BLDS2 %02,%03,S
     result (computes 0x99820603 0xffffffff 0x80ff7f00 0xffffff80 0 1) ∷  -- BLDS3 %02,%03,S
+    -- K4: "MOVX before that is a stop. The record says loaded or not, and RX and RY are 0 until loaded; 01's MOVX case has them loaded."
+    points 0x98051800 0 0 0 0x1f 27 ∷  -- MOVX @%05,@%X+,S
+    points 0x98051800 0 0 0 0x20 27 ∷  -- "27, after 9 and before 10": before 13
+    points 0x98051800 1 0 0 0x20 13 ∷  -- "MOVX address 20 with DM_SIZE 20: 13; 1F passes."
+    points 0x98051800 1 0 0 0x1f 0 ∷
+    points 0x98001c05 0 0 0 0x1f 27 ∷  -- MOVX @%X+,@%05,S
+    points 0x98001c05 0 0 0 0x20 27 ∷
+    points 0x98001c05 1 0 0 0x20 13 ∷
+    points 0x98001c05 1 0 0 0x1f 0 ∷
+    points 0x98051800 0 1 0 0x1f 3 ∷  -- not loaded, with RX 1, and with RY 1: the record is out of its ranges
+    points 0x98051800 0 0 1 0x1f 3 ∷
+    points 0x98051800 1 1 1 0x1f 0 ∷
+    points 0x98051800 2 0 0 0x1f 3 ∷  -- the mark is 0 or 1
+    points 0xa1030005 0 0 0 0x1f 0 ∷  -- MOV %03,@%05 asks for no LDYX
+    loads 0x98041402 2 4 ∷  -- LDYX %04,%02,S
+    loads 0x9c041402 2 4 ∷  -- LDYX %04,%02: bit 26 is of the flags alone
     []
 
 abbrev pub all-so : List Reading → Bool

@@ -15,7 +15,7 @@ module _ {c : Config} {inputs room : ℕ} where
   ranged : {m : Core} →
       m .pc < 0x800000 →
       InBank c (m .wp) →
-      Indices c (m .rx) (m .ry) →
+      Indices c (m .loaded) (m .rx) (m .ry) →
       Flags (m .n) (m .z) →
       High c (m .spr7) →
       m .depth ≤ stackLimit (c .pcstack) →
@@ -34,7 +34,7 @@ module _ {c : Config} {inputs room : ℕ} where
     pub kept-banked : {w : ℕ} → InBank c w → Ranged c inputs room (banked m w)
     kept-banked h = ranged (g .pc) h (g .indices) (g .flags) (g .high) (g .depth) (g .masks) (g .posted) (g .taken) (g .logged)
 
-    pub kept-indexed : {x y : ℕ} → Indices c x y → Ranged c inputs room (indexed m x y)
+    pub kept-indexed : {l x y : ℕ} → Indices c l x y → Ranged c inputs room (indexed m l x y)
     kept-indexed h = ranged (g .pc) (g .bank) h (g .flags) (g .high) (g .depth) (g .masks) (g .posted) (g .taken) (g .logged)
 
     pub kept-flagged : (bit26 : ℕ) {z n : ℕ} → z ≤ 1 → n ≤ 1 → Ranged c inputs room (flagged m bit26 z n)

@@ -8,5 +8,6 @@ pub mod Step
 pub mod Plans
 pub mod StaysValid
 pub mod Leaving
+pub mod Loaded
 pub mod Calls
 pub mod Lengths

@@ -178,13 +178,16 @@ module _ (e : Env) (s : State) (g : Good e s) where
 
     -- indices
 
-    load-index-sound : Indices c (i .source) (i .destination) → Sound e s (loadIndexPlan v i)
+    load-index-sound : Indices c 1 (i .source) (i .destination) → Sound e s (loadIndexPlan v i)
     unfolding loadIndexPlan
     load-index-sound k = moved-sound (kept-flagged (kept-indexed onward k) (i .flag) (one-le _) (omega arith)) refl
 
-    index-in : In (indexCore v i)
+    index-in : (s .core .loaded ≡ 0 → ⊥) → In (indexCore v i)
     unfolding advanced
-    index-in = kept-flagged (kept-indexed onward (record { x = around; y = g .core .indices .y })) (i .flag) (one-le _) (omega arith)
+    index-in k =
+        let q = g .core .indices in
+        kept-flagged (kept-indexed onward (record { x = around; y = q .y; mark = q .mark; none = λ z. absurd (k z) })) (i .flag) (one-le _)
+        (omega arith)
       where
         around : pick (eqb (s .core .rx + 1) (c .regsize)) 0 (s .core .rx + 1) < c .regsize
         around =
@@ -192,13 +195,13 @@ module _ (e : Env) (s : State) (g : Good e s) where
             (λ u. let n : s .core .rx + 1 ≡ c .regsize → ⊥ = λ q. u (eq→eqb (s .core .rx + 1) (c .regsize) q) in
             omega (arith, g .core .indices .x))
 
-    index-store-sound : dataAddress (D v i) < c .dmsize → Sound e s (indexStorePlan v i)
+    index-store-sound : (s .core .loaded ≡ 0 → ⊥) → dataAddress (D v i) < c .dmsize → Sound e s (indexStorePlan v i)
     unfolding indexStorePlan advanced
-    index-store-sound k = memory-sound index-in refl (register-word (s .core .rx)) k
+    index-store-sound l k = memory-sound (index-in l) refl (register-word (s .core .rx)) k
 
-    index-load-sound : Sound e s (indexLoadPlan v i)
+    index-load-sound : (s .core .loaded ≡ 0 → ⊥) → Sound e s (indexLoadPlan v i)
     unfolding indexLoadPlan advanced
-    index-load-sound = register-sound index-in refl (memory-word _) (in-bank (g .core .indices .x))
+    index-load-sound l = register-sound (index-in l) refl (memory-word _) (in-bank (g .core .indices .x))
 
     -- moves
 
@@ -358,9 +361,11 @@ module _ (e : Env) (s : State) (g : Good e s) where
         (record {
           x = a-register c (r .source) (i .source) (p .1) fits-source;
           y = a-register c (r .destination) (i .destination) (p .0) fits-destination;
+          mark = omega arith;
+          none = λ z. let x : ⊥ = omega arith in absurd x;
         })
-    by-kind index-store p q = index-store-sound (q .address .1 tt)
-    by-kind index-load p q = index-load-sound
+    by-kind index-store p q = index-store-sound (q .index tt) (q .address .1 tt)
+    by-kind index-load p q = index-load-sound (q .index tt)
     by-kind move p q = move-sound p
     by-kind (load-constant f) p q = load-constant-sound f p
     by-kind load-register p q = load-register-sound p

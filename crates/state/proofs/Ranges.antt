@@ -118,7 +118,13 @@ good e s h =
           record {
             pc = p .0;
             bank = record { whole = p .1 .0; inside = p .1 .1 .0 };
-            indices = record { x = p .1 .1 .1 .0; y = p .1 .1 .1 .1 };
+            indices =
+                record {
+                  x = p .1 .1 .1 .0;
+                  y = p .1 .1 .1 .1 .0;
+                  mark = p .1 .1 .1 .1 .1 .0;
+                  none = λ q. p .1 .1 .1 .1 .1 .1 (eq→eqb (s .core .loaded) 0 q);
+                };
             flags = record { negative = m .0; zero = m .1 .0 };
             high = record { word = m .1 .1 .1 .1 .1 .1 .0; none = λ q. m .1 .1 .1 .1 .1 .1 .1 (eq→eqb (e .config .regwidth) 32 q) };
             depth = o .0;
@@ -137,7 +143,15 @@ pub valid : (e : Env) (s : State) → Good e s → Valid e s
 unfolding guards inRanges
 valid e s g =
     let m = g .core in
-    let places = m .pc also m .bank .whole also m .bank .inside also m .indices .x also m .indices .y in
+    let indices : T (eqb (s .core .loaded) 0) → (s .core .rx ≡ 0) × (s .core .ry ≡ 0) = λ t. m .indices .none (eqb→eq (s .core .loaded) 0 t) in
+    let places =
+    m .pc also
+    m .bank .whole also
+    m .bank .inside also
+    m .indices .x also
+    m .indices .y also
+    m .indices .mark also
+    indices in
     let product : T (eqb (e .config .regwidth) 32) → s .core .spr7 ≡ 0 = λ t. m .high .none (eqb→eq (e .config .regwidth) 32 t) in
     let address : T (eqb (s .core .posted) 0) → s .core .port ≡ 0 = λ t. m .posted .none (eqb→eq (s .core .posted) 0 t) in
     let marks =

@@ -1,4 +1,4 @@
--- What it tells of the instruction at PC that 4 to 15 let the step pass: by a computed test over all rows, what parts a row of each kind has.
+-- What it tells of the instruction at PC that 4 to 15 and 27 let the step pass: by a computed test over all rows, what parts a row of each kind has.
 -- Assumes nothing.
 use Prim.Native.Nat.{ℕ, _<_}
 use mathlib.Core.Path.{_≡_}
@@ -19,7 +19,7 @@ use Rattle.words.specs.Rows.{Row, rows, rowCount, rowAt}
 use Rattle.words.specs.Words.{fits, refusals567}
 use Rattle.state.specs.State.{Env, State}
 use Rattle.state.specs.Operands.{View, viewOf}
-use Rattle.state.specs.Stops.{stop9, stop10, stop11, stop12, stop13, stop14, stop15, stops, stops9to15, partsAt, kindAt, factsAt}
+use Rattle.state.specs.Stops.{stop9, stop27, stop10, stop11, stop12, stop13, stop14, stop15, stops, stops9to15, partsAt, kindAt, factsAt}
 use Rattle.state.specs.Step.{number}
 
 -- what parts a row of each kind has
@@ -89,9 +89,10 @@ pub with-banks : (c : Config) (o : Option) → T (needs o banks) → Holds (avai
 unfolding available
 with-banks c o t h = rw (decided-yes (Option-discrete o banks) t) at h
 
--- what 9 to 15 let pass, by name: proofs go by these, whatever the order of the list
+-- what 9 to 15 and 27 let pass, by name: proofs go by these, whatever the order of the list
 pub record Passed (v : View) (i : Instruction) (f : Facts) : Type 0 where
   pub quiet : Holds (stop9 v i f)
+  pub index : Holds (stop27 v i f)
   pub not-full : Holds (stop10 v i f)
   pub not-empty : Holds (stop11 v i f)
   pub bank : Holds (stop12 v i f)
@@ -104,12 +105,13 @@ unfolding stops9to15
 passed v i f p =
     record {
       quiet = p .0;
-      not-full = p .1 .0;
-      not-empty = p .1 .1 .0;
-      bank = p .1 .1 .1 .0;
-      address = p .1 .1 .1 .1 .0;
-      input = p .1 .1 .1 .1 .1 .0;
-      room = p .1 .1 .1 .1 .1 .1 .0;
+      index = p .1 .0;
+      not-full = p .1 .1 .0;
+      not-empty = p .1 .1 .1 .0;
+      bank = p .1 .1 .1 .1 .0;
+      address = p .1 .1 .1 .1 .1 .0;
+      input = p .1 .1 .1 .1 .1 .1 .0;
+      room = p .1 .1 .1 .1 .1 .1 .1 .0;
     }
 
 pub record Told (e : Env) (s : State) : Type 0 where

@@ -9,7 +9,7 @@ use mathlib.Core.Bool.{true, false}
 
 -- the parts of a core, and a core with one of them changed
 pub data Place : Type 0 where
-  PC WP RX RY N Z SPR7 DEPTH IMASK SAVED MODE POSTED PORT TAKEN LOGGED : Place
+  PC WP RX RY LOADED N Z SPR7 DEPTH IMASK SAVED MODE POSTED PORT TAKEN LOGGED : Place
   deriving Discrete as Place-discrete
 
 infixl 5 _but_≔_
@@ -21,6 +21,7 @@ m but p ≔ x =
       wp = here WP (m .wp);
       rx = here RX (m .rx);
       ry = here RY (m .ry);
+      loaded = here LOADED (m .loaded);
       n = here N (m .n);
       z = here Z (m .z);
       spr7 = here SPR7 (m .spr7);
@@ -49,9 +50,9 @@ next m = posting (at m (m .pc + 1)) 0 0
 abbrev pub flagged : Core → ℕ → ℕ → ℕ → Core
 flagged m bit26 z n = m but N ≔ pick (eqb bit26 0) n (m .n) but Z ≔ pick (eqb bit26 0) z (m .z)
 
--- RX and RY
-abbrev pub indexed : Core → ℕ → ℕ → Core
-indexed m x y = m but RX ≔ x but RY ≔ y
+-- the mark that an LDYX has run since reset (K4), RX and RY
+abbrev pub indexed : Core → ℕ → ℕ → ℕ → Core
+indexed m loaded x y = m but LOADED ≔ loaded but RX ≔ x but RY ≔ y
 
 -- SPR7
 abbrev pub multiplied : Core → ℕ → Core

@@ -15,9 +15,11 @@ pub record InBank (c : Config) (wp : ℕ) : Type 0 where
   pub whole : wp % 16 ≡ 0
   pub inside : wp + c .regsize ≤ c .rmsize
 
-pub record Indices (c : Config) (rx ry : ℕ) : Type 0 where
+pub record Indices (c : Config) (loaded rx ry : ℕ) : Type 0 where
   pub x : rx < c .regsize
   pub y : ry < c .regsize
+  pub mark : loaded ≤ 1
+  pub none : loaded ≡ 0 → (rx ≡ 0) × (ry ≡ 0)
 
 pub record Flags (n z : ℕ) : Type 0 where
   pub negative : n ≤ 1
@@ -41,7 +43,7 @@ pub record Posted (c : Config) (posted port : ℕ) : Type 0 where
 pub record Ranged (c : Config) (inputs room : ℕ) (m : Core) : Type 0 where
   pub pc : m .pc < 0x800000
   pub bank : InBank c (m .wp)
-  pub indices : Indices c (m .rx) (m .ry)
+  pub indices : Indices c (m .loaded) (m .rx) (m .ry)
   pub flags : Flags (m .n) (m .z)
   pub high : High c (m .spr7)
   pub depth : m .depth ≤ stackLimit (c .pcstack)

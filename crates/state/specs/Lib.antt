@@ -8,5 +8,6 @@ pub mod Stops
 pub mod Step
 pub mod Run
 pub mod Claims
+pub mod Loaded
 pub mod Good
 pub mod Landing

@@ -28,9 +28,9 @@ alu c o d s n = aluOf (bits (c .regwidth)) o (d % top c) (s % top c) (n % 2)
 abbrev pub product : Config → ℕ → ℕ → Product
 product c a b = mulOf (bits (c .regwidth)) (a % top c) (b % top c)
 
--- "MOVX: Z is RX = RY before RX advances; RX goes from REG_SIZE−1 to 0; N 0."
+-- "MOVX: Z is RX = RY before RX advances; RX goes from REG_SIZE−1 to 0; N 0." The mark of an LDYX stays.
 unfoldable pub advanced : Config → Core → Core
-advanced c m = indexed m (pick (eqb (m .rx + 1) (c .regsize)) 0 (m .rx + 1)) (m .ry)
+advanced c m = indexed m (m .loaded) (pick (eqb (m .rx + 1) (c .regsize)) 0 (m .rx + 1)) (m .ry)
 
 -- "logs it with MSbit set"
 unfoldable pub withTopBit : Config → ℕ → ℕ
@@ -76,10 +76,10 @@ module _ (v : View) (i : Instruction) where
   multiplyPlan x =
       toRegister (multiplied M (product (v .config) D (X x) .high)) (cell v (i .destination)) (product (v .config) D (X x) .value)
 
-  -- "LDYX: RY from 22-16, RX from 6-0, Z if equal, N 0."
+  -- "LDYX: RY from 22-16, RX from 6-0, Z if equal, N 0." K4: "The machine now remembers if an LDYX has run since reset"
   unfoldable pub loadIndexPlan : Change
   loadIndexPlan =
-      moved (flagged (indexed M (i .source) (i .destination)) (i .flag) (one (eqb (i .source) (i .destination))) 0)
+      moved (flagged (indexed M 1 (i .source) (i .destination)) (i .flag) (one (eqb (i .source) (i .destination))) 0)
 
   -- MOVX: flags before the advance
   abbrev pub indexCore : Core

@@ -14,14 +14,17 @@ abbrev pub lengths : Config → ℕ → ℕ → ℕ → ℕ → ℕ → Test
 lengths c image registers memory addresses values =
     same image (c .imsize) and same registers (c .rmsize) and same memory (c .dmsize) and same addresses values
 
--- "PC < 2^23; WP is a multiple of 16 with WP + REG_SIZE ≤ RM_SIZE; RX and RY < REG_SIZE"
+-- "PC < 2^23; WP is a multiple of 16 with WP + REG_SIZE ≤ RM_SIZE; RX and RY < REG_SIZE". K4: "The record says loaded or not, and RX and RY are 0 until
+-- loaded"
 abbrev pub places : Config → Core → Test
 places c m =
     less (m .pc) 0x800000 and
     same (m .wp % 16) 0 and
     most (m .wp + c .regsize) (c .rmsize) and
     less (m .rx) (c .regsize) and
-    less (m .ry) (c .regsize)
+    less (m .ry) (c .regsize) and
+    most (m .loaded) 1 and
+    if? (eqb (m .loaded) 0) (same (m .rx) 0 and same (m .ry) 0)
 
 -- "flags, mode and posted mark are 0 or 1; masks ≤ 15; SPR7 < 2^W, and 0 at W = 32"
 abbrev pub marks : Config → Core → Test

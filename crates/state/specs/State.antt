@@ -46,7 +46,7 @@ top c = 2 ^ bits (c .regwidth)
 unfoldable pub stackLimit : ℕ → ℕ
 stackLimit n = pick (eqb n 1) 1 (n - 1)
 
--- "Reset: PC, WP, RX, RY, flags, SPR7, stack, positions 0; both masks 15; normal mode; no posted write."
+-- "Reset: PC, WP, RX, RY, flags, SPR7, stack, positions 0; both masks 15; normal mode; no posted write." No LDYX has run since (document 02, K4).
 abbrev pub resetCore : Core
 resetCore =
     record {
@@ -54,6 +54,7 @@ resetCore =
       wp = 0;
       rx = 0;
       ry = 0;
+      loaded = 0;
       n = 0;
       z = 0;
       spr7 = 0;

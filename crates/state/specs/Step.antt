@@ -56,7 +56,7 @@ advanceOf e s =
     (record { number = 0; cycles = cyclesOf (e .config) (factsAt e s); state = applied (planAt e s) s })
     (refused (number e s) s)
 
--- the whole call: 1, 2, 3, then 4 to 15
+-- the whole call: 1, 2, 3, then 4 to 15 and 27
 unfoldable pub stepOf : Env → State → Outcome
 stepOf e s =
     pick (eqb (first-failing (guards e s)) 0) (advanceOf e s) (refused (first-failing (guards e s)) s)

@@ -1,10 +1,11 @@
--- The numbers that stop a step, 4 to 15, in the table's order: document 01, 'Numbers of refusal and stop'.
+-- The numbers that stop a step, 4 to 15, in the table's order: document 01, 'Numbers of refusal and stop'; and 27, document 02's K4, "after 9 and before
+-- 10".
 use Prim.Native.Nat.{ℕ, _+_, _*_, _/_}
 use mathlib.Core.Bool.{_&&_, _||_}
 use mathlib.Core.List.{List, [], _∷_, _++_}
 use lib.Dec.{eqb}
 use lib.ListN.{length, getD}
-use Rattle.laws.specs.Test.{Test, less, most, same, yes?, if?, _and_, member}
+use Rattle.laws.specs.Test.{Test, less, most, same, isnt, yes?, if?, _and_, member}
 use Rattle.words.specs.declared.Instruction.{Instruction}
 use Rattle.words.specs.declared.Facts.{Facts}
 use Rattle.words.specs.Rows.{rowAt}
@@ -26,6 +27,10 @@ module _ (v : View) (i : Instruction) (f : Facts) where
   -- 9 "port read straight after a port write to another address"
   abbrev pub stop9 : Test
   stop9 = if? (f .input && eqb (v .core .posted) 1) (same (v .core .port) (register v (i .source)))
+
+  -- 27 "The machine now remembers if an LDYX has run since reset; MOVX before that is a stop."
+  abbrev pub stop27 : Test
+  stop27 = if? (f .index) (isnt (v .core .loaded) 0)
 
   -- 10 "call with the return stack full"
   abbrev pub stop10 : Test
@@ -55,8 +60,9 @@ module _ (v : View) (i : Instruction) (f : Facts) where
   abbrev pub stop15 : Test
   stop15 = if? (f .output) (less (v .core .logged) (v .room))
 
+  -- in their order, 27 among them
   unfoldable pub stops9to15 : List (ℕ × Test)
-  stops9to15 = (9, stop9) ∷ (10, stop10) ∷ (11, stop11) ∷ (12, stop12) ∷ (13, stop13) ∷ (14, stop14) ∷ (15, stop15) ∷ []
+  stops9to15 = (9, stop9) ∷ (27, stop27) ∷ (10, stop10) ∷ (11, stop11) ∷ (12, stop12) ∷ (13, stop13) ∷ (14, stop14) ∷ (15, stop15) ∷ []
 
 -- the instruction at PC, as far as it can be read, its kind, and what is asked of that
 abbrev pub partsAt : Env → State → Instruction
@@ -68,7 +74,7 @@ kindAt e s = rowAt (partsAt e s .row) .kind
 abbrev pub factsAt : Env → State → Facts
 factsAt e s = factsFor (kindAt e s)
 
--- 4 "PC ≥ IM_SIZE"; 5, 6, 7 as for reading; 8 to 15
+-- 4 "PC ≥ IM_SIZE"; 5, 6, 7 as for reading; 8, 9, 27, 10 to 15
 unfoldable pub stops : Env → State → List (ℕ × Test)
 stops e s =
     let i = partsAt e s in

@@ -26,6 +26,7 @@ impl Machine {
             wp: 0,
             rx: 0,
             ry: 0,
+            loaded: 0,
             n: 0,
             z: 0,
             spr7: 0,
@@ -90,10 +91,11 @@ impl Core {
         self
     }
 
-    // RX and RY.
-    pub fn indexed(mut self, x: usize, y: usize) -> Core
-        ensures { λ r. ⌜ r ≡ indexed self x y ⌝ }
+    // The mark of an LDYX, RX and RY.
+    pub fn indexed(mut self, loaded: u32, x: usize, y: usize) -> Core
+        ensures { λ r. ⌜ r ≡ indexed self loaded x y ⌝ }
     {
+        self.loaded = loaded;
         self.rx = x;
         self.ry = y;
         self

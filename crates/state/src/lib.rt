@@ -3,9 +3,10 @@
 
 pub mod helpers;
 
-// The registers of the core, all numbers, so that 'are 0 or 1' is a test. `depth` is how many addresses the return stack holds, `saved` the mask
-// that SPR_ON saved, `mode` 1 in special-register mode, `posted` 1 straight after a port write and `port` its address, `taken` how many
-// inputs (document 01's readings) were taken, `logged` how many places of the output log are filled.
+// The registers of the core, all numbers, so that 'are 0 or 1' is a test. `depth` is how many addresses the return stack holds, `posted` 1 straight after
+// a port write and `port` its address, `loaded` 1 once an LDYX has run since reset, `saved` the mask that SPR_ON saved, `mode` 1 in special-register
+// mode, `taken` how many inputs (document 01's readings) were taken, `logged` how many places of the output log are filled. Two marks share eight bytes:
+// of a core of 128 bytes the compiled loop copies the whole at every step (docs/landings/K4.md).
 pub struct Core {
     pub pc: usize,
     pub wp: usize,
@@ -15,10 +16,11 @@ pub struct Core {
     pub z: u64,
     pub spr7: u64,
     pub depth: usize,
+    pub posted: u32,
+    pub loaded: u32,
     pub imask: u64,
     pub saved: u64,
     pub mode: u64,
-    pub posted: u64,
     pub port: u64,
     pub taken: usize,
     pub logged: usize,

@@ -8,7 +8,7 @@ use Rattle.words.specs.declared.Form.the-variants.{Signed, Unsigned, Shi
 use Rattle.words.specs.Parts.{Part, unused, flag, byte, coprocessor, register, unit, mask, immediate, read-address, write-address, target, count, bank-address, short}
 use Rattle.words.specs.Parts.{Option, always, mult, level1, level2, level2-memory, memory, ports, rmw, banks, spr, never}
 use Rattle.words.specs.Kinds.{Condition, Z, NZ, GT, LT, GE, LE, BIO}
-use Rattle.words.specs.Kinds.{Mark, goes-on, jumps, calls, returns, enters-mode, leaves-mode, reveals, reads-port, writes-port, loads, stores, by-register, enters-bank, leaves-bank, barred}
+use Rattle.words.specs.Kinds.{Mark, goes-on, jumps, calls, returns, enters-mode, leaves-mode, reveals, reads-port, writes-port, loads, stores, by-register, enters-bank, leaves-bank, barred, by-index}
 
 unfoldable pub partCode : Part → ℕ
 partCode unused = 0
@@ -79,6 +79,7 @@ weight by-register = 2048
 weight enters-bank = 4096
 weight leaves-bank = 8192
 weight barred = 16384
+weight by-index = 32768
 
 abbrev pub weights : List Mark → ℕ
 weights [] = 0

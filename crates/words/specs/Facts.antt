@@ -4,7 +4,7 @@ use mathlib.Core.Bool.{Bool, false, _||_}
 use mathlib.Core.List.{List, [], _∷_}
 use Rattle.laws.specs.Choice.{decided}
 use Rattle.words.specs.declared.Facts.{Facts}
-use Rattle.words.specs.Kinds.{Kind, marksOf, Mark, Mark-discrete, goes-on, jumps, calls, returns, enters-mode, leaves-mode, reveals, reads-port, writes-port, loads, stores, by-register, enters-bank, leaves-bank, barred}
+use Rattle.words.specs.Kinds.{Kind, marksOf, Mark, Mark-discrete, goes-on, jumps, calls, returns, enters-mode, leaves-mode, reveals, reads-port, writes-port, loads, stores, by-register, enters-bank, leaves-bank, barred, by-index}
 use Rattle.words.specs.Rows.{rowAt}
 
 -- m is among the marks
@@ -31,6 +31,7 @@ factsFor k =
       tobank = has ms enters-bank;
       frombank = has ms leaves-bank;
       barred = has ms barred;
+      index = has ms by-index;
     }
 
 -- of row n

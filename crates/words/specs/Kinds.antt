@@ -63,6 +63,7 @@ pub data Mark : Type 0 where
   enters-bank : Mark  -- JSRWP
   leaves-bank : Mark  -- RETWP
   barred : Mark  -- barred by the certificate's rule 3
+  by-index : Mark  -- moves the register that RX names: MOVX
   deriving Discrete as Mark-discrete
 
 unfoldable pub marksOf : Kind → List Mark
@@ -72,8 +73,8 @@ marksOf (compare a b) = goes-on ∷ []
 marksOf (multiply a) = goes-on ∷ []
 marksOf (bytewise a) = goes-on ∷ []
 marksOf load-index = goes-on ∷ []
-marksOf index-store = goes-on ∷ stores ∷ by-register ∷ []
-marksOf index-load = goes-on ∷ loads ∷ by-register ∷ []
+marksOf index-store = goes-on ∷ stores ∷ by-register ∷ by-index ∷ []
+marksOf index-load = goes-on ∷ loads ∷ by-register ∷ by-index ∷ []
 marksOf move = goes-on ∷ reveals ∷ []
 marksOf (load-constant a) = goes-on ∷ []
 marksOf load-register = goes-on ∷ loads ∷ by-register ∷ []

@@ -70,6 +70,7 @@ factsIn p =
       tobank = marked 4096 p;
       frombank = marked 8192 p;
       barred = marked 16384 p;
+      index = marked 32768 p;
     }
 
 -- what stands for a row past the table's end: noRow, packed

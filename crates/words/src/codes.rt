@@ -81,3 +81,5 @@ pub const ENTERS_BANK: u64 = 4096;
 pub const LEAVES_BANK: u64 = 8192;
 
 pub const BARRED: u64 = 16384;
+
+pub const BY_INDEX: u64 = 32768;

@@ -170,4 +170,5 @@ pub struct Facts {
     pub tobank: bool,
     pub frombank: bool,
     pub barred: bool,
+    pub index: bool,
 }

@@ -27,6 +27,7 @@ pub fn facts_in(p: u64) -> Facts
         tobank: m / codes::ENTERS_BANK % 2 == 1,
         frombank: m / codes::LEAVES_BANK % 2 == 1,
         barred: m / codes::BARRED % 2 == 1,
+        index: m / codes::BY_INDEX % 2 == 1,
     }
 }
 

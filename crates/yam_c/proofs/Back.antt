@@ -1,13 +1,13 @@
 -- Flat records read back as themselves.
 -- Assumes nothing.
-use mathlib.Core.Path.{_≡_, refl, _∙_}
+use mathlib.Core.Path.{_≡_, refl, sym, ap, _∙_}
 use mathlib.Core.List.{List, _++_}
 use Prim.Native.Nat.{ℕ, zero, suc, _+_, _^_, _<_, _≤_}
 use native.Mathlib.Nat.{mod-eq-of-lt, lt-of-lt-of-le}
 use native.Mathlib.Omega.{arith}
 use lib.ListN.{length, drop, replicate, length-append}
 use lib.Pow.{pow-mono}
-use lib.Seq.{take-at, drop-at}
+use lib.Seq.{drop-drop, take-at, drop-at, getD-at}
 use Rattle.laws.specs.Choice.{pick}
 use Rattle.laws.specs.Test.{Holds, Below}
 use Rattle.words.specs.declared.Config.{Config}
@@ -18,7 +18,7 @@ use Rattle.state.specs.State.{Env, State, top}
 use Rattle.state.specs.Cores.{positioned}
 use Rattle.state.specs.Good.{Good}
 use Rattle.state.proofs.Ranges.{bounds, good}
-use Rattle.yam_c.specs.Flat.{low, high, wide, configOf, instructionOf, coreWords, machineWords, coreIn, stackIn, shaped, machineOf}
+use Rattle.yam_c.specs.Flat.{low, high, wide, configOf, instructionOf, coreWords, addedWords, machineWords, coreIn, stackIn, shaped, machineOf}
 use Rattle.yam_c.specs.Claims.{ConfigBack, InstructionBack, MachineBack}
 use Rattle.yam_c.proofs.Machines.{machine-in}
 
@@ -56,9 +56,10 @@ pub record OneWord (m : Core) : Type 0 where
 same-positions : (m : Core) {taken logged : ℕ} → taken ≡ m .taken → logged ≡ m .logged → positioned m taken logged ≡ m
 same-positions m p q = rw (p, q)
 
-core-back : (m : Core) (rest : List ℕ) → OneWord m → coreIn (coreWords m ++ rest) ≡ m
-core-back m rest h =
+core-back : (m : Core) (stack : List ℕ) → length stack ≡ 63 → OneWord m → coreIn (coreWords m ++ (stack ++ addedWords m)) ≡ m
+core-back m stack l h =
     rw (
+      getD-at stack (m .loaded) (replicate 19 0) 0 63 l,
       low-same (m .pc) (h .pc),
       low-same (m .wp) (h .wp),
       low-same (m .rx) (h .rx),
@@ -78,14 +79,14 @@ core-back m rest h =
 module _ (m : Core) (stack : List ℕ) (l : length stack ≡ 63) where
   pub words-length : length (machineWords m stack) ≡ 100
   unfolding machineWords
-  words-length = omega (arith, l, length-append stack (replicate 20 0))
+  words-length = omega (arith, l, length-append stack (addedWords m))
 
-  words-zeros : drop 80 (machineWords m stack) ≡ replicate 20 0
+  words-zeros : drop 81 (machineWords m stack) ≡ replicate 19 0
   unfolding machineWords
-  words-zeros = drop-at stack (replicate 20 0) 63 l
+  words-zeros = sym (drop-drop 1 63 (stack ++ addedWords m)) ∙ ap (drop 1) (drop-at stack (addedWords m) 63 l)
 
   words-shaped : Holds (shaped (machineWords m stack))
-  words-shaped = (words-length, rw words-zeros (below-zeros 20))
+  words-shaped = (words-length, rw words-zeros (below-zeros 19))
     where
       below-zeros : (k : ℕ) → Below 1 (replicate k 0)
       below-zeros zero = tt
@@ -93,12 +94,12 @@ module _ (m : Core) (stack : List ℕ) (l : length stack ≡ 63) where
 
   words-stack : stackIn (machineWords m stack) ≡ stack
   unfolding machineWords
-  words-stack = take-at stack (replicate 20 0) 63 l
+  words-stack = take-at stack (addedWords m) 63 l
 
   pub words-back : OneWord m → machineOf (machineWords m stack) ≡ record { core = m; stack = stack }
   unfolding machineWords
   words-back h =
-      machine-in (machineWords m stack) words-shaped ∙ rw (words-stack, core-back m (stack ++ replicate 20 0) h)
+      machine-in (machineWords m stack) words-shaped ∙ rw (words-stack, core-back m stack l h)
 
 top-most : (c : Config) → top c ≤ 2 ^ 32
 top-most c = pow-mono {i = bits (c .regwidth)} {j = 32} (bits-width (c .regwidth) .most)

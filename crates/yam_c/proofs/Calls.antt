@@ -6,7 +6,7 @@ use Prim.Native.Nat.{ℕ, zero, suc}
 use native.Mathlib.Omega.{arith}
 use borrow.Author.Tests.{eq-eqb, ne-eqb, eqb-false, ltb-false}
 use lib.Dec.{eqb, ltb}
-use lib.ListN.{length, take, drop}
+use lib.ListN.{length, set, take, drop}
 use Rattle.laws.specs.Choice.{pick}
 use Rattle.laws.specs.First.{first-failing}
 use Rattle.laws.specs.Test.{Holds}
@@ -76,7 +76,7 @@ rested e s o h q =
 
 module _ (e : Env) (f registers memory addresses values : List ℕ) (shape : Holds (shaped f)) (core : Core) (q : core ≡ coreIn f) (g machine′ answers answers′ : List ℕ) where
   pub step-placed : (o : Outcome) → StepsLent e (state core (stackIn f) registers memory addresses values) o → length (o .state .stack) ≡ 63 →
-      g ≡ take 17 f ++ (o .state .stack ++ drop 63 (drop 17 f)) → machine′ ≡ pick (eqb (o .number) 0) (stored g 0 (coreWords (o .state .core))) g →
+      g ≡ take 17 f ++ (o .state .stack ++ drop 63 (drop 17 f)) → machine′ ≡ pick (eqb (o .number) 0) (set (stored g 0 (coreWords (o .state .core))) 80 (o .state .core .loaded)) g →
       answers′ ≡ stored answers 0 (o .cycles ∷ []) →
       movedTo (o .number) machine′ (o .state) answers′ ≡ stepLeft (stepOf e (machineState (machineOf f) registers memory addresses values)) f answers
   step-placed o lent l parts k a =
@@ -89,7 +89,7 @@ module _ (e : Env) (f registers memory addresses values : List ℕ) (shape : Hol
       a)
 
   pub run-placed : (budget : ℕ) (x : End) → RunsLent budget e (state core (stackIn f) registers memory addresses values) x → length (x .last .stack) ≡ 63 →
-      g ≡ take 17 f ++ (x .last .stack ++ drop 63 (drop 17 f)) → machine′ ≡ pick (ltb 0 (x .steps)) (stored g 0 (coreWords (x .last .core))) g →
+      g ≡ take 17 f ++ (x .last .stack ++ drop 63 (drop 17 f)) → machine′ ≡ pick (ltb 0 (x .steps)) (set (stored g 0 (coreWords (x .last .core))) 80 (x .last .core .loaded)) g →
       answers′ ≡ stored answers 0 (x .steps ∷ x .cycles ∷ []) →
       movedTo (x .number) machine′ (x .last) answers′ ≡
       runLeft (endOf (runCall budget e (machineState (machineOf f) registers memory addresses values))) f answers

@@ -86,7 +86,7 @@ tooWide = record { row = 0; flag = 0; destination = 0; source = 4294967295; numb
 unfoldable pub instructionOf : List ℕ → Instruction
 instructionOf f = pick (eqb (length f) 6) (instructionIn f) tooWide
 
--- the machine record: seventeen words of the core, the two positions as two words each, low word first; the return stack; twenty zeros
+-- the machine record: seventeen words of the core, the two positions as two words each, low word first; the return stack; what document 02 adds
 abbrev pub coreWords : Core → List ℕ
 coreWords m =
     low (m .pc) ∷ low (m .wp) ∷ low (m .rx) ∷ low (m .ry) ∷ low (m .n) ∷ low (m .z) ∷ low (m .spr7) ∷ low (m .depth) ∷
@@ -94,8 +94,12 @@ coreWords m =
     low (m .taken) ∷ high (m .taken) ∷ low (m .logged) ∷ high (m .logged) ∷
     []
 
+-- K4's mark that an LDYX has run since reset, then nineteen zeros
+abbrev pub addedWords : Core → List ℕ
+addedWords m = m .loaded ∷ replicate 19 0
+
 unfoldable pub machineWords : Core → List ℕ → List ℕ
-machineWords m stack = coreWords m ++ (stack ++ replicate 20 0)
+machineWords m stack = coreWords m ++ (stack ++ addedWords m)
 
 abbrev pub coreIn : List ℕ → Core
 coreIn f =
@@ -104,6 +108,7 @@ coreIn f =
       wp = cell f 1;
       rx = cell f 2;
       ry = cell f 3;
+      loaded = cell f 80;
       n = cell f 4;
       z = cell f 5;
       spr7 = cell f 6;
@@ -125,9 +130,9 @@ stackIn f = take 63 (drop 17 f)
 abbrev pub outside : Machine
 outside = record { core = at resetCore 8388608; stack = replicate 63 0 }
 
--- a hundred words, of which the last twenty are zero
+-- a hundred words, of which the last nineteen are zero
 abbrev pub shaped : List ℕ → Test
-shaped f = same (length f) 100 and each 1 (drop 80 f)
+shaped f = same (length f) 100 and each 1 (drop 81 f)
 
 unfoldable pub machineOf : List ℕ → Machine
 machineOf f = pick (test (shaped f)) (record { core = coreIn f; stack = stackIn f }) outside

@@ -22,12 +22,16 @@ pub const INSTRUCTION_WORDS: usize = 6;
 
 pub const MACHINE_WORDS: usize = 100;
 
-// Where in a machine's words the return stack starts, behind the core, and where it ends; zeros follow.
+// Where in a machine's words the return stack starts, behind the core, and where it ends; the mark of an LDYX follows, and then zeros.
 pub const STACK_FROM: usize = 17;
 
 pub const STACK_TO: usize = 80;
 
-const ZEROS: usize = 20;
+const LOADED_AT: usize = 80;
+
+const ZEROS_FROM: usize = 81;
+
+const ZEROS: usize = 19;
 
 // How many values a word has.
 const WORD_VALUES: u64 = 4294967296;
@@ -204,14 +208,14 @@ pub fn instruction_into(i: Instruction, flat: &mut [u32])
     store(flat, 0, &words);
 }
 
-// Whether the words have the form of a machine: a hundred, the last twenty zero.
+// Whether the words have the form of a machine: a hundred, the last nineteen zero.
 pub fn machine_shaped(flat: &[u32]) -> bool
     ensures { λ r. ⌜ r ≡ test (shaped (now (flat .entry))) ⌝ }
 {
     if flat.len() != MACHINE_WORDS {
         return false;
     }
-    let above = guards::joined(&flat[STACK_TO..MACHINE_WORDS]);
+    let above = guards::joined(&flat[ZEROS_FROM..MACHINE_WORDS]);
     above == 0
 }
 
@@ -224,6 +228,7 @@ pub fn core_in(flat: &[u32]) -> Core
         wp: cell(flat, 1) as usize,
         rx: cell(flat, 2) as usize,
         ry: cell(flat, 3) as usize,
+        loaded: cell(flat, LOADED_AT),
         n: cell(flat, 4) as u64,
         z: cell(flat, 5) as u64,
         spr7: cell(flat, 6) as u64,
@@ -231,7 +236,7 @@ pub fn core_in(flat: &[u32]) -> Core
         imask: cell(flat, 8) as u64,
         saved: cell(flat, 9) as u64,
         mode: cell(flat, 10) as u64,
-        posted: cell(flat, 11) as u64,
+        posted: cell(flat, 11),
         port: cell(flat, 12) as u64,
         taken: wide(cell(flat, 13), cell(flat, 14)),
         logged: wide(cell(flat, 15), cell(flat, 16)),
@@ -282,7 +287,7 @@ fn core_words(m: Core) -> [u32; STACK_FROM]
         low(m.imask),
         low(m.saved),
         low(m.mode),
-        low(m.posted),
+        low(m.posted as u64),
         low(m.port),
         low(m.taken as u64),
         high(m.taken as u64),
@@ -298,16 +303,18 @@ pub fn machine_into(m: Machine, flat: &mut [u32])
     store(flat, 0, &core);
     let stack = m.stack;
     store(flat, STACK_FROM, &stack);
+    put(flat, LOADED_AT, m.core.loaded);
     let zeros = [0u32; ZEROS];
-    store(flat, STACK_TO, &zeros);
+    store(flat, ZEROS_FROM, &zeros);
 }
 
-// Writes the core where it changed: the return stack was changed in place.
+// Writes the core where it changed, its mark behind the return stack, which was changed in place.
 pub fn update(changed: bool, m: Core, flat: &mut [u32])
-    ensures { λ _. ⌜ now (flat .exit) ≡ pick changed (stored (now (flat .entry)) 0 (coreWords m)) (now (flat .entry)) ⌝ }
+    ensures { λ _. ⌜ now (flat .exit) ≡ pick changed (set (stored (now (flat .entry)) 0 (coreWords m)) 80 (m .loaded)) (now (flat .entry)) ⌝ }
 {
     if changed {
         let core = core_words(m);
         store(flat, 0, &core);
+        put(flat, LOADED_AT, m.loaded);
     }
 }

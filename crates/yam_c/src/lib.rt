@@ -149,7 +149,7 @@ fn step_in_place(
     r.number
 }
 
-// One step: 1, 2, 3, 4 to 15. The next call reads the state that it left.
+// One step: 1, 2, 3, 4 to 9, 27, 10 to 15. The next call reads the state that it left.
 #[no_mangle]
 pub extern "C" fn yam_step(
     config: &[u32],

@@ -10,7 +10,8 @@
 // Cases of steps give a state first, and keep what a call leaves for the next call:
 //   i, p, a, v  the image, the inputs, the log's addresses, the log's values: a length and as many numbers
 //   g, d  register memory, data memory: the length, a count, and as many pairs of cell and value; the other cells are 0
-//   m  the machine record: the 15 numbers of state::Core in its order, then the return stack: a count and as many addresses; the rest is 0
+//   m  the machine record: the 16 numbers of the core: PC, WP, RX, RY, loaded, N, Z, SPR7, depth, IMask, the saved mask,
+//      mode, posted, port, taken, logged; then the return stack: a count and as many addresses; the rest is 0
 //   z  the machine at reset
 //   s  one step: prints document 01's number, the cycles, the core, the return stack's cells that are not 0, and the cells of both memories and of
 //      the log that are not as they were before the call

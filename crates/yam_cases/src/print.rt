@@ -16,6 +16,7 @@ fn put_core(c: Core) {
     put(b" wp ", wide(c.wp));
     put(b" rx ", wide(c.rx));
     put(b" ry ", wide(c.ry));
+    put(b" loaded ", c.loaded as u64);
     put(b" n ", c.n);
     put(b" z ", c.z);
     put(b" spr7 ", c.spr7);
@@ -23,7 +24,7 @@ fn put_core(c: Core) {
     put(b" imask ", c.imask);
     put(b" saved ", c.saved);
     put(b" mode ", c.mode);
-    put(b" posted ", c.posted);
+    put(b" posted ", c.posted as u64);
     put(b" port ", c.port);
     put(b" taken ", wide(c.taken));
     put(b" logged ", wide(c.logged));

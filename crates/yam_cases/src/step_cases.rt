@@ -118,6 +118,7 @@ fn core() -> Core {
     let wp = place(number());
     let rx = place(number());
     let ry = place(number());
+    let loaded = number();
     let n = wide(number());
     let z = wide(number());
     let spr7 = wide(number());
@@ -125,7 +126,7 @@ fn core() -> Core {
     let imask = wide(number());
     let saved = wide(number());
     let mode = wide(number());
-    let posted = wide(number());
+    let posted = number();
     let port = wide(number());
     let taken = place(number());
     let logged = place(number());
@@ -134,6 +135,7 @@ fn core() -> Core {
         wp,
         rx,
         ry,
+        loaded,
         n,
         z,
         spr7,

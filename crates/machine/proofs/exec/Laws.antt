@@ -4,7 +4,7 @@ use Prim.Native.Nat.{ℕ, zero, suc, _+_, _-_, _*_, _/_, _%_, _<_, _≤_}
 use native.Mathlib.Omega.{arith}
 use native.Mathlib.Nat.{mod-eq-of-lt, le-of-lt, add-zero}
 use mathlib.Core.Path.{_≡_, refl, sym, ap, _∙_}
-use mathlib.Core.Bool.{Bool, true, false, _&&_}
+use mathlib.Core.Bool.{Bool, true, false, not, _&&_}
 use lib.Dec.{eqb, ltb, leb}
 use lib.ListN.{length, getD}
 use Rattle.laws.specs.Choice.{pick}
@@ -186,19 +186,23 @@ module _ (v : View) (w b e : ℕ) (i : Instruction) {at d s fl val tk : ℕ}
   multiply-is k t x-is q = entered (q ∙ rw (pc-is, k, at-is t, d-is t, x-is))
 
   pub load-index-is : {r : Change} → {x y : ℕ} → K ≡ load-index → reads flag′ b → reads destination′ b → reads source′ b → x ≡ sourceIn w → y ≡ destinationIn w →
-      r ≡ moved (flagged (indexed (onward (v .core)) x y) (fl) (one (eqb x y)) 0) → r ≡ act v i (entryKind e)
+      r ≡ moved (flagged (indexed (onward (v .core)) 1 x y) (fl) (one (eqb x y)) 0) → r ≡ act v i (entryKind e)
   unfolding act stops9to15 planOf factsFor marksOf pick loadIndexPlan
   load-index-is k f t u x-is y-is q = entered (q ∙ rw (pc-is, k, flag-is f, x-is ∙ p .source (rw entry-is u), y-is ∙ p .destination (rw entry-is t)))
 
   pub index-store-is : {r : Change} → {x : ℕ} → K ≡ index-store → reads flag′ b → reads destination′ b → x ≡ getD (v .registers) (v .core .wp + v .core .rx) 0 →
-      r ≡ pick (ltb (dataAddress d) (v .config .dmsize)) (toMemory (flagged (further (v .config) (onward (v .core))) (fl) (one (eqb (v .core .rx) (v .core .ry))) 0) (dataAddress d) x) (stopped (v .core) 13) → r ≡ act v i (entryKind e)
+      r ≡ pick (not (eqb (v .core .loaded) 0)) (pick (ltb (dataAddress d) (v .config .dmsize)) (toMemory (flagged (further (v .config) (onward (v .core))) (fl) (one (eqb (v .core .rx) (v .core .ry))) 0) (dataAddress d) x) (stopped (v .core) 13)) (stopped (v .core) 27) → r ≡ act v i (entryKind e)
   unfolding act stops9to15 planOf factsFor marksOf pick indexStorePlan further advanced
   index-store-is k f t x-is q = entered (q ∙ rw (pc-is, rx-is, k, flag-is f, d-is t, x-is))
 
   pub index-load-is : {r : Change} → {l : ℕ} → K ≡ index-load → reads flag′ b → reads source′ b → l ≡ v .config .dmsize →
-      r ≡ pick (ltb (dataAddress s) l) (toRegister (flagged (further (v .config) (onward (v .core))) (fl) (one (eqb (v .core .rx) (v .core .ry))) 0) (v .core .wp + v .core .rx) (getD (v .memory) (dataAddress s) 0)) (stopped (v .core) 13) → r ≡ act v i (entryKind e)
+      r ≡ pick (not (eqb (v .core .loaded) 0)) (pick (ltb (dataAddress s) l) (toRegister (flagged (further (v .config) (onward (v .core))) (fl) (one (eqb (v .core .rx) (v .core .ry))) 0) (v .core .wp + v .core .rx) (getD (v .memory) (dataAddress s) 0)) (stopped (v .core) 13)) (stopped (v .core) 27) → r ≡ act v i (entryKind e)
   unfolding act stops9to15 planOf factsFor marksOf pick indexLoadPlan further advanced
-  index-load-is k f u l-is q = entered (q ∙ rw (pc-is, rx-is, l-is, k, flag-is f, s-is u) (trim (ltb (dataAddress (register v (i .source))) (v .config .dmsize)) _ _))
+  index-load-is k f u l-is q =
+      entered
+      (q ∙
+      rw (pc-is, rx-is, l-is, k, flag-is f, s-is u)
+      (ap (λ y. pick (not (eqb (v .core .loaded) 0)) y (stopped (v .core) 27)) (trim (ltb (dataAddress (register v (i .source))) (v .config .dmsize)) _ _)))
 
   pub move-is : {r : Change} → K ≡ move → reads destination′ b → reads source′ b → r ≡ toRegister (onward (v .core)) at s → r ≡ act v i (entryKind e)
   unfolding act stops9to15 planOf factsFor marksOf pick movePlan

@@ -1,19 +1,23 @@
 -- `plans::plans::index_store` meets its contract. Assumes nothing.
 use Rattle.laws.specs.Choice.{pick}
-use borrow.Author.Tests.{lt-ltb, le-ltb}
+use borrow.Author.Tests.{eq-eqb, ne-eqb, lt-ltb, le-ltb}
 use borrow.Author.Needs.{needs}
 use Rattle.plans.proofs.plans.index_store.Statement.{statement}
 use Rattle.plans.proofs.plans.index_store.Tie as tie
 
 returns : tie.Need-returns
 unfolding pick
-returns c = rw (lt-ltb _ _ (c .before .before .if1 .taken), c .to-memory .ensures, c .before .index-core .ensures)
+returns c = rw (eq-eqb _ _ (c .before .if1 .taken), c .stopped .ensures)
 
 returns-2 : tie.Need-returns-2
 unfolding pick
-returns-2 c = rw (le-ltb _ _ (c .before .if1 .left), c .stopped .ensures)
+returns-2 c = rw (ne-eqb _ _ (c .before .before .before .before .if1 .left), lt-ltb _ _ (c .before .before .if2 .taken), c .to-memory .ensures, c .before .index-core .ensures)
+
+returns-3 : tie.Need-returns-3
+unfolding pick
+returns-3 c = rw (ne-eqb _ _ (c .before .before .before .if1 .left), le-ltb _ _ (c .before .if2 .left), c .stopped2 .ensures)
 
 pub index-store-spec : {M : Type 1} → statement M
 index-store-spec =
     tie.close
-    (tie.spec (λ c κs. search needs) (λ c. search needs) (λ c κs. search needs) returns (λ c κs. search needs) returns-2)
+    (tie.spec (λ c κs. search needs) returns (λ c κs. search needs) (λ c. search needs) (λ c κs. search needs) returns-2 (λ c κs. search needs) returns-3)
