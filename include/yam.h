@@ -25,8 +25,9 @@ extern "C" {
 
 /* A machine record: 0 PC, 1 WP, 2 RX, 3 RY, 4 N, 5 Z, 6 SPR7, 7 how many addresses the return stack holds, 8 IMask, 9 the mask that SPR_ON saved,
    10 mode (1: special-register mode), 11 posted mark, 12 posted address, 13 and 14 how many inputs were taken (low word, high word), 15 and 16 how many
-   places of the log are filled (low word, high word), 17 to 79 the return stack, oldest address first, zeros above, 80 to 99 zeros. Another length, or
-   one of the last twenty not zero, is refused by 3, after 1 and 2. */
+   places of the log are filled (low word, high word), 17 to 79 the return stack, oldest address first, zeros above, 80 loaded: 1
+   once an LDYX has run since reset, else 0, and RX and RY are 0 then, 81 to 99 zeros. Another length, or one of the last nineteen not zero, is refused
+   by 3, after 1 and 2. */
 #define YAM_MACHINE_WORDS 100
 
 /* An instruction: 0 row (yam_rows.h), 1 flag, 2 destination, 3 source, 4 byte number, 5 value. Parts are named by their place in the word:
@@ -51,9 +52,9 @@ uint32_t yam_write(const uint32_t *config, size_t config_length, const uint32_t 
 /* The machine at reset: 3 where the list is not YAM_MACHINE_WORDS long, and then it is left as it was; else all its words are written. */
 uint32_t yam_reset(uint32_t *machine, size_t machine_length);
 
-/* One step: 1; 2 (lengths: image IM_SIZE, registers RM_SIZE, memory DM_SIZE, both lists of the log alike); 3; 4 to 15. inputs: what the ports give,
-   one word for each port read. answers: the step's cycles. On a refusal machine, registers, memory and log are left as they were. A call on the lists that a step or a run left
-   reads the state that it left: that is proved. */
+/* One step: 1; 2 (lengths: image IM_SIZE, registers RM_SIZE, memory DM_SIZE, both lists of the log alike); 3; 4 to 9, 27, 10 to 15. inputs: what the
+   ports give, one word for each port read. answers: the step's cycles. On a refusal machine, registers, memory and log are left as they were. A call on
+   the lists that a step or a run left reads the state that it left: that is proved. */
 uint32_t yam_step(const uint32_t *config, size_t config_length, const uint32_t *image, size_t image_length, const uint32_t *inputs,
                   size_t inputs_length, uint32_t *machine, size_t machine_length, uint32_t *registers, size_t registers_length, uint32_t *memory,
                   size_t memory_length, uint32_t *log_addresses, size_t log_addresses_length, uint32_t *log_values, size_t log_values_length,
@@ -69,8 +70,8 @@ uint32_t yam_run(const uint32_t *config, size_t config_length, const uint32_t *i
 /* Checks an image against its certificate (document 01's sheet), a byte an address: 1; 2 (image or certificate not IM_SIZE long); 17.
    answers: on a pass the level at address 0, and 0; beside 17 the first address that breaks a rule, and its lowest rule. After a pass every list of
    yam_step and yam_run calls from a machine of yam_reset, with memories of the right lengths whose cells fit the word width and two log lists of equal
-   length, each call on the lists that the last one left, answers 0, 13, 14 and 15 alone (a run also 16), and word 7 of the machine stays at most that
-   level: that is proved. */
+   length, each call on the lists that the last one left, answers 0, 13, 14, 15 and 27 alone (a run also 16), and word 7 of the machine stays at most
+   that level: that is proved. */
 uint32_t yam_check(const uint32_t *config, size_t config_length, const uint32_t *image, size_t image_length, const uint8_t *certificate,
                    size_t certificate_length, uint64_t *answers, size_t answers_length);
 

@@ -55,6 +55,18 @@ same("step", yam.step(config, image, [], *state), (0, 2))
 same("run", yam.run(config, image, [], *state, 10), (0, 10, 20))
 same("16 to 18, %06", (list(state[2][16:19]), state[1][6]), ([7, 8, 9], 19))
 same("run, budget", yam.run(config, image, [], *state, 1000001), (16, 0, 0))
+same("the mark after LDYX", state[0][yam.LOADED], 1)
+state = yam.machine(), yam.words(16), yam.words(32), yam.words(0), yam.words(0)
+same("the machine at reset", [(at, word) for at, word in enumerate(state[0]) if word], [(8, 15), (9, 15)])
+same("run, MOVX before LDYX", yam.run(config, WORDS[:1] + [0] + WORDS[2:], [], *state, 11), (27, 2, 4))
+same("its steps are kept", (state[0][0], state[1][6], state[0][yam.LOADED]), (2, 16, 0))
+same("step, MOVX before LDYX", (yam.step(config, image, [], *state), state[0][0]), ((27, 0), 2))
+state[0][2] = 1
+same("step, RX 1 and not loaded", yam.step(config, image, [], *state), (3, 0))
+state[0][yam.LOADED] = 1
+same("step, RX 1 and loaded", (yam.step(config, image, [], *state), state[0][2]), ((0, 2), 2))
+state[0][81] = 1
+same("step, word 81 not zero", yam.step(config, image, [], *state), (3, 0))
 lent = yam.words([7] * 8)
 same("assemble", (yam.assemble(config, SOURCE, lent), list(lent)), ((0, 6, 0), WORDS + [7, 7]))
 lent = yam.words([7] * 6)

@@ -10,6 +10,7 @@ import os
 import pathlib
 
 CONFIG_WORDS, MACHINE_WORDS, INSTRUCTION_WORDS = 19, 100, 6
+LOADED = 80  # the machine's word that is 1 once an LDYX has run since reset; until then RX and RY are 0
 _PLACE = pathlib.Path(__file__).resolve().parents[2] / "target" / "python" / "libyam.so"
 _library = ctypes.CDLL(os.environ.get("YAM_LIBRARY", str(_PLACE)))
 for _name in "read write reset step run check text list assemble load store".split():
@@ -84,7 +85,7 @@ def write(config, instruction):
 
 
 def machine():
-    """the words of a machine at reset"""
+    """the words of a machine at reset (include/yam.h says which is which); LOADED is 0, so that MOVX is 27 until an LDYX has run"""
     m = words(MACHINE_WORDS)
     _call("reset", m)
     return m

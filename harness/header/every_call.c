@@ -75,6 +75,7 @@ static void after_eleven_steps(const char *what)
     size_t i;
     same(what, machine[0], 5);
     same(what, machine[2], 5);
+    same(what, machine[80], 1);
     same(what, registers[6], 19);
     for (i = 0; i < MEMORY; i += 1)
         same(what, memory[i], i >= 16 && i <= 18 ? i - 9 : 0);
@@ -106,6 +107,18 @@ static void steps(void)
          yam_run(config, YAM_CONFIG_WORDS, image, WORDS, inputs, 1, machine, YAM_MACHINE_WORDS, registers, REGISTERS, memory, MEMORY,
                  log_addresses, 2, log_values, 2, 1000001, answers, 2),
          16);
+    at_reset();
+    machine[0] = 2;
+    same("MOVX from reset",
+         yam_step(config, YAM_CONFIG_WORDS, image, WORDS, inputs, 0, machine, YAM_MACHINE_WORDS, registers, REGISTERS, memory, MEMORY,
+                  log_addresses, 0, log_values, 0, answers, 1),
+         27);
+    same("its mark", machine[80], 0);
+    machine[80] = 2;
+    same("a mark of 2",
+         yam_step(config, YAM_CONFIG_WORDS, image, WORDS, inputs, 0, machine, YAM_MACHINE_WORDS, registers, REGISTERS, memory, MEMORY,
+                  log_addresses, 0, log_values, 0, answers, 1),
+         3);
     same("a log of unlike lists",
          yam_step(config, YAM_CONFIG_WORDS, image, WORDS, inputs, 0, machine, YAM_MACHINE_WORDS, registers, REGISTERS, memory, MEMORY,
                   log_addresses, 2, log_values, 1, answers, 1),

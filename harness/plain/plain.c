@@ -157,13 +157,14 @@ void plain_run(const struct plain_config *c, const uint32_t *image, const uint32
             case 0x14:
                 if (shift) STOP(5);
                 NEED(level == 2); TEST(two_bad2);
-                m->ry = w >> 16 & 0x7f; m->rx = w & 0x7f;
+                m->ry = w >> 16 & 0x7f; m->rx = w & 0x7f; m->loaded = 1;
                 SET_ZN(m->rx == m->ry, 0);
                 break;
             case 0x18: case 0x1c: {
                 if (shift) STOP(5);
                 NEED(level == 2 && dm_size); TEST(two_bad2);
                 TEST(code == 0x18 ? 0x7fu : 0x7fu << 16);
+                if (!m->loaded) STOP(27);
                 uint32_t address = (code == 0x18 ? DEST : SOURCE) & 0xffff, rx = m->rx;
                 if (address >= dm_size) STOP(13);
                 if (code == 0x18) memory[address] = r[rx];

@@ -14,7 +14,7 @@ struct plain_config {
 struct plain_machine {
     uint32_t pc, wp, rx, ry, n, z, spr7, depth, imask, saved, mode, posted, posted_address;
     uint32_t input_position[2], log_position[2];
-    uint32_t stack[63], rest[20];
+    uint32_t stack[63], loaded, rest[19]; /* loaded: 1 once an LDYX has run since reset */
 };
 
 struct plain_answer {

@@ -30,15 +30,16 @@ uint32_t plain_ranges_number(const struct plain_config *c, const struct plain_ma
                              size_t inputs_len, size_t log_len) {
     const uint32_t width = c->reg_width, mask = 0xffffffffu >> (32 - width), depth = m->depth;
     if (m->pc >= 1u << 23 || m->wp % 16 != 0 || m->wp > c->rm_size - c->reg_size) return 3;
-    if (m->rx >= c->reg_size || m->ry >= c->reg_size) return 3;
-    if ((m->n | m->z | m->mode | m->posted) > 1 || (m->imask | m->saved) > 15) return 3;
+    if (m->rx >= c->reg_size || m->ry >= c->reg_size || (!m->loaded && (m->rx | m->ry))) return 3;
+    if ((m->n | m->z | m->mode | m->posted | m->loaded) > 1 || (m->imask | m->saved) > 15) return 3;
     if (m->spr7 > (width == 32 ? 0 : mask) || m->posted_address > (m->posted ? mask : 0)) return 3;
     if (plain_wide(m->input_position) > inputs_len || plain_wide(m->log_position) > log_len) return 3;
     if (depth > plain_stack_limit(c)) return 3;
     for (uint32_t i = 0; i < depth; i++)
         if (m->stack[i] > c->im_size) return 3;
+    /* zeros above the stack to the record's end, but for the mark: in one go where that is 0 too */
     const uint32_t *words = &m->pc;
-    if (joined(words + 17 + depth, 100 - 17 - depth) != 0) return 3; /* zeros from there to the record's end */
+    if (m->loaded ? joined(m->stack + depth, 63 - depth) | joined(m->rest, 19) : joined(words + 17 + depth, 83 - depth)) return 3;
     if (width == 32) return 0; /* every cell fits */
     return (joined(registers, c->rm_size) | joined(memory, c->dm_size)) & ~mask ? 3 : 0;
 }

@@ -97,9 +97,11 @@ fn context(calls: &dyn Calls) -> Result<(), String> {
     same("its PC and WP", (setup.machine.pc, setup.machine.wp), (0x40, 0x20))
 }
 
+/// "01's MOVX case has them loaded" (document 02, K4).
 fn movx(calls: &dyn Calls) -> Result<(), String> {
     for (address, number) in [(0x20, 13), (0x1f, 0)] {
         let mut setup = Setup::new(32, 0x20, &[0x9806_1800]);
+        setup.machine.loaded = 1;
         setup.registers[6] = address;
         same("MOVX", setup.run(calls, 1)?.0, number)?;
     }

@@ -245,16 +245,12 @@ impl Input {
 
     /// The lists of a step or a run.
     pub fn lists(&self) -> Lists {
-        let words = |place: usize| self.arguments[place].value.words().to_vec();
-        Lists {
-            image: words(1),
-            inputs: words(2),
-            machine: words(MACHINE),
-            registers: words(4),
-            memory: words(5),
-            log_addresses: words(6),
-            log_values: words(7),
-        }
+        lists_by(|place| &self.arguments[place].value)
+    }
+
+    /// The lists of a step or a run as it left them.
+    pub fn left(output: &Output) -> Lists {
+        lists_by(|place| &output.values[place])
     }
 
     /// Makes the call, each of its lists between guards.
@@ -288,6 +284,19 @@ impl Input {
             said.extend(output.faults.iter().map(|fault| format!("{name}, {fault}")));
         }
         (!said.is_empty()).then(|| format!("{left} and {right}: {}", said.join("; ")))
+    }
+}
+
+fn lists_by<'a>(value: impl Fn(usize) -> &'a Value) -> Lists {
+    let words = |place: usize| value(place).words().to_vec();
+    Lists {
+        image: words(1),
+        inputs: words(2),
+        machine: words(MACHINE),
+        registers: words(4),
+        memory: words(5),
+        log_addresses: words(6),
+        log_values: words(7),
     }
 }
 

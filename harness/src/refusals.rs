@@ -174,7 +174,7 @@ pub fn answer(calls: &dyn Calls, example: &str) -> Result<u32, String> {
 
 /// The numbers that the table has, some with more than one example.
 fn numbers() -> Vec<u32> {
-    (1..=26).chain([36]).collect()
+    (1..=27).chain([36]).collect()
 }
 
 /// Every number, in order, and each example answered by its number.
@@ -183,7 +183,7 @@ pub fn run(calls: &dyn Calls) -> Result<usize, String> {
     let mut said: Vec<u32> = lines.iter().map(|line| line.number).collect();
     said.dedup();
     if said != numbers() {
-        return Err("docs/refusals.md: not the numbers 1 to 26 and 36".to_string());
+        return Err("docs/refusals.md: not the numbers 1 to 27 and 36".to_string());
     }
     let mut count = 0;
     for line in &lines {

@@ -9,6 +9,7 @@ use crate::generate::states::{self, Lists};
 use crate::generate::words;
 use crate::inputs::{Input, Output, BUDGET, MACHINE};
 use crate::model::config::Config;
+use crate::model::machine::LOADED_AT;
 use crate::model::step::BUDGET_LIMIT;
 use crate::random::Random;
 use crate::seen::Done;
@@ -22,8 +23,10 @@ pub struct RunsSeen {
     /// Steps into special-register mode, and out of it.
     pub entered: u64,
     pub left: u64,
-    /// Runs that stopped by 5, 6 and 7 after at least `LATE` steps.
-    pub late: [u64; 3],
+    /// Runs that stopped by each of `LATE_STOPS` after at least `LATE` steps.
+    pub late: [u64; LATE_STOPS.len()],
+    /// Runs from a machine that was not loaded in which a MOVX was carried out, after an LDYX of the same run (K4).
+    pub loaded: u64,
     /// Steps off the image from its last address.
     pub off_end: u64,
     /// Steps to an address at least 4,096 away, and of them those to one that is nearly alike modulo 512.
@@ -32,14 +35,15 @@ pub struct RunsSeen {
 }
 
 pub const LATE: u64 = 50;
+const LATE_STOPS: [u32; 4] = [5, 6, 7, 27];
 /// How far apart two addresses are that are called far.
 const FAR: u32 = 4_096;
 
 impl RunsSeen {
     /// Whether everything that is counted was met.
     pub fn all_met(&self) -> bool {
-        let RunsSeen { runs, steps, entered, left, late: [five, six, seven], off_end, leaps, leaps_alike } = *self;
-        [runs, steps, entered, left, five, six, seven, off_end, leaps, leaps_alike].iter().all(|&count| count > 0)
+        let RunsSeen { runs, steps, entered, left, late, loaded, off_end, leaps, leaps_alike } = *self;
+        [runs, steps, entered, left, loaded, off_end, leaps, leaps_alike].iter().chain(&late).all(|&count| count > 0)
     }
 
     /// A step that was carried out, from one record to the next.
@@ -130,6 +134,7 @@ pub fn run(pair: &mut Pair, config: &[u32], lists: &mut Lists, budget: u64) -> R
     let input = Input::advance(config, lists, Some(budget), &[0; 2]);
     let ran = pair.compare(&input)?;
     let (library, runs, seen) = (pair.library, &mut pair.runs, &mut pair.seen);
+    let movx_before = seen.indexes.carried_out();
     let stepped = single_steps(library, &input, |registers, before, after| {
         runs.note(config, before, after);
         seen.note_step(Done::Run, config, &lists.image, registers, before, after);
@@ -144,9 +149,11 @@ pub fn run(pair: &mut Pair, config: &[u32], lists: &mut Lists, budget: u64) -> R
         let again = |input: &Input| not_its_steps(input, &input.make(library), &single_steps(library, input, |_, _, _| ()));
         return Err(pair.tell(&input, said, &|input| Some(input).filter(comparable).and_then(again)));
     }
+    let movx_done = pair.seen.indexes.carried_out() > movx_before;
+    pair.runs.loaded += u64::from(lists.machine.get(LOADED_AT) == Some(&0) && movx_done);
     pair.runs.runs += 1;
     pair.runs.steps += stepped.steps;
-    if let Some(late) = (5..=7).position(|late| late == stepped.number).filter(|_| stepped.steps >= LATE) {
+    if let Some(late) = LATE_STOPS.iter().position(|&late| late == stepped.number).filter(|_| stepped.steps >= LATE) {
         pair.runs.late[late] += 1;
     }
     let advanced = Advanced::of(&ran);

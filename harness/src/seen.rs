@@ -1,6 +1,7 @@
 //! What the compared calls met: the numbers of each call, the rules of 17, the rows and the conditions of jumps.
 
 use crate::edges::Edges;
+use crate::indexes::Indexes;
 use crate::inputs::{Call, Input, Output, MACHINE};
 use crate::model::config::Config;
 use crate::model::rows::{rows, Condition, Field, Kind, Need};
@@ -95,6 +96,7 @@ pub struct Seen {
     /// Taken, not taken.
     jumps: BTreeMap<Jump, [u64; 2]>,
     edges: Edges,
+    pub indexes: Indexes,
 }
 
 fn name_of(done: Done) -> &'static str {
@@ -147,6 +149,14 @@ impl Seen {
                 let [config, image, registers] = [0, 1, 4].map(|place| given(place).words());
                 let (before, after) = (given(MACHINE).words(), output.values[MACHINE].words());
                 self.note_step(Done::Stepped, config, image, registers, before, after);
+            }
+            (Call::Step | Call::Run, 3 | 8 | 13 | 27) => {
+                let Some(c) = Config::lawful_from_words(given(0).words()) else { return };
+                // What a call leaves is what its refused step was given.
+                match output.number {
+                    3 => self.indexes.note_ranges(input.call.name(), &c, input.lists()),
+                    stop => self.indexes.note_stop(input.call.name(), &c, &Input::left(output), stop),
+                }
             }
             _ => {}
         }
@@ -224,6 +234,7 @@ impl Seen {
         let Some((c, &word)) = Config::lawful_from_words(config).zip(image.get(pc as usize)) else { return };
         let Ok(instruction) = read(&c, word) else { return };
         self.note_form(done, Form::of(&c, &instruction));
+        self.indexes.note_done(if done == Done::Run { "run" } else { "step" }, &instruction, before);
         let (register, condition, target) = match instruction.row().kind {
             Kind::Jump(condition) => (false, condition, instruction.value),
             Kind::JumpRegister(condition) => {
@@ -242,6 +253,7 @@ impl Seen {
     /// What must be met and never was.
     pub fn unmet(&self) -> Vec<String> {
         let mut unmet = self.edges.unmet();
+        unmet.extend(self.indexes.unmet());
         for (rule, _) in (1..).zip(&self.rules).filter(|(_, &count)| count == 0) {
             unmet.push(format!("17 never named rule {rule}"));
         }
@@ -273,6 +285,7 @@ impl Seen {
         let rules = (1..).zip(&self.rules).map(|(rule, count): (u32, _)| format!("{rule}: {count}"));
         println!("17 by rule: {}", each(rules.collect()));
         self.edges.print();
+        self.indexes.print();
         let fewest = |counts: &Vec<u64>| Form::all().map(|form| (counts[form.index()], form.name())).min();
         let fewest_each = ALL_DONE.iter().filter_map(|(_, name)| {
             let (count, form) = self.forms.get(name).and_then(fewest)?;

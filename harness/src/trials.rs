@@ -3,16 +3,17 @@
 use crate::calls::{Calls, State};
 use crate::cases::SUBJECTS;
 use crate::compare::Pair;
-use crate::document_bytes;
+use crate::demand::DemandSeen;
 use crate::generate::configs::{self, Size};
 use crate::generate::states;
 use crate::inputs::{Call, Input, Value};
 use crate::model::config::Config;
 use crate::model::Model;
 use crate::random::Random;
-use crate::runs;
+use crate::runs::{self, RunsSeen};
 use crate::seen::Seen;
 use crate::shrink::shrink;
+use crate::{document_bytes, document_index};
 
 /// What is wrong with a side that else answers as the model does.
 #[derive(Clone, Copy, PartialEq, Eq)]
@@ -25,6 +26,15 @@ enum Fault {
     RunCycle,
     /// Reading takes a direct target at IM_SIZE (K2).
     Target,
+    /// 13 is tested before 27 (K4).
+    IndexOrder,
+    /// A MOVX that 27 refuses sets the mark; one is carried out in 27's place, and sets it.
+    RefusedLoads,
+    MovxLoads,
+    /// Reset has the mark set.
+    ResetLoaded,
+    /// RX is free while the mark is 0.
+    FreeIndex,
     /// A breach of rule 8 is called one of rule 7.
     Rule,
     /// A source with "RLD" in it is refused.
@@ -39,15 +49,25 @@ enum Fault {
 struct Wrong(Fault);
 
 const WP: usize = 1;
+const RX: usize = 2;
 const N: usize = 4;
+const LOADED: usize = 80;
 const SUBS: u32 = 0b00111;
 const LEVEL_2: u32 = 0b10011;
 const BLDS: u32 = 0x06;
+const MOVX_TO: u32 = 0x18;
+const DM_SIZE: usize = 5;
 
 /// Writes beside a list, whose neighbours are the guards of the same allocation.
 fn write_beside(list: &[u8], place: isize) {
     let beside = list.as_ptr().wrapping_offset(place).cast_mut();
     unsafe { beside.write_volatile(0) };
+}
+
+/// The data address of a MOVX that 27 refused.
+fn movx_address(word: u32, machine: &[u32], registers: &[u32]) -> u32 {
+    let register = if word >> 8 & 0xff == MOVX_TO { word >> 16 } else { word };
+    registers[(machine[WP] + (register & 0x7f)) as usize] % 0x1_0000
 }
 
 impl Calls for Wrong {
@@ -61,21 +81,39 @@ impl Calls for Wrong {
         Model.write(config, instruction, answers)
     }
     fn reset(&self, machine: &mut [u32]) -> u32 {
-        Model.reset(machine)
+        let number = Model.reset(machine);
+        if self.0 == Fault::ResetLoaded && number == 0 {
+            machine[LOADED] = 1;
+        }
+        number
     }
     fn step(&self, config: &[u32], image: &[u32], inputs: &[u32], state: State, answers: &mut [u64]) -> u32 {
         let State { machine, registers, memory, log_addresses, log_values } = state;
         let word = machine.first().and_then(|&pc| image.get(pc as usize)).copied().unwrap_or(0);
-        let lent = State { machine: &mut *machine, registers: &mut *registers, memory, log_addresses, log_values };
-        let number = Model.step(config, image, inputs, lent, answers);
-        if self.0 == Fault::SubsFlag && number == 0 && word >> 27 == SUBS {
-            machine[N] ^= 1;
-        }
-        if self.0 == Fault::SignedByte && number == 0 && word >> 27 == LEVEL_2 && word >> 8 & 0xff == BLDS {
-            let destination = &mut registers[(machine[WP] + (word >> 16 & 0x7f)) as usize];
-            if [0xff80, 0xffff_ff80].contains(destination) {
-                *destination = 0x80;
+        let mut step = |machine: &mut [u32], registers: &mut [u32]| {
+            let (memory, log_addresses, log_values) = (&mut *memory, &mut *log_addresses, &mut *log_values);
+            Model.step(config, image, inputs, State { machine, registers, memory, log_addresses, log_values }, answers)
+        };
+        // A free RX is hidden from the model, and put back where no LDYX was carried out.
+        let free = self.0 == Fault::FreeIndex && machine.get(LOADED) == Some(&0);
+        let rx = if free { std::mem::take(&mut machine[RX]) } else { 0 };
+        let number = step(machine, registers);
+        match (self.0, number) {
+            (Fault::SubsFlag, 0) if word >> 27 == SUBS => machine[N] ^= 1,
+            (Fault::SignedByte, 0) if word >> 27 == LEVEL_2 && word >> 8 & 0xff == BLDS => {
+                let destination = &mut registers[(machine[WP] + (word >> 16 & 0x7f)) as usize];
+                if [0xff80, 0xffff_ff80].contains(destination) {
+                    *destination = 0x80;
+                }
             }
+            (Fault::IndexOrder, 27) if movx_address(word, machine, registers) >= config[DM_SIZE] => return 13,
+            (Fault::RefusedLoads, 27) => machine[LOADED] = 1,
+            (Fault::MovxLoads, 27) => {
+                machine[LOADED] = 1;
+                return step(machine, registers);
+            }
+            (Fault::FreeIndex, _) if free && machine[LOADED] == 0 => machine[RX] = rx,
+            _ => {}
         }
         number
     }
@@ -159,6 +197,24 @@ fn a_byte_with_the_wrong_sign_is_found() {
 }
 
 #[test]
+fn index_pointers_taken_otherwise_are_found_and_made_small() {
+    for (fault, subject, wanted, by_hand) in [
+        (Fault::IndexOrder, "states", "the number: 27 and 13", "98061800, address 20, mark 0: (d, [0]), "),
+        (Fault::RefusedLoads, "states", "machine[80]: 0x0 and 0x1", "98061800 from reset: machine[80] after it: 1, "),
+        (Fault::MovxLoads, "states", "the number: 27 and 0", "98061800 from reset: (0, [2]), "),
+        (Fault::ResetLoaded, "reset", "machine[80]: 0x0 and 0x1", "word 80 at reset: 1, "),
+        (Fault::FreeIndex, "states", "the number: 3 and 0", "a0000000 with [(2, 1)]: (0, [2]), "),
+    ] {
+        let said = found(fault, subject);
+        assert!(said.starts_with(&format!("model and library: {wanted}")), "{said}");
+        let words = smaller(&said).into_iter().find(|line| line.starts_with("image [")).unwrap_or_default();
+        assert!(!words.contains(','), "{said}");
+        let said = document_index::run(&Wrong(fault)).expect_err("the fault is found");
+        assert!(said.starts_with(by_hand), "{said}");
+    }
+}
+
+#[test]
 fn a_target_at_im_size_is_found() {
     let said = found(Fault::Target, "words");
     assert!(said.starts_with("model and library: the number: 7 and 0"), "{said}");
@@ -232,12 +288,15 @@ fn a_smaller_input_still_differs() {
 
 #[test]
 fn what_was_never_met_is_told() {
+    assert!(!RunsSeen::default().all_met() && !DemandSeen::default().all_met());
     let unmet = Seen::default().unmet();
     for what in [
         "17 never named rule 8",
         "no listing had ?6",
         "RETWP at W 32 was never stepped",
         "JMP target, GE, was never not taken when run",
+        "MOVX from past DM_SIZE: 27 was never met by a step",
+        "RY though not loaded was never met by a run",
     ] {
         assert!(unmet.iter().any(|told| told == what), "{what}");
     }

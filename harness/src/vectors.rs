@@ -3,7 +3,7 @@
 use crate::calls::{Calls, State};
 use crate::json::Json;
 use crate::model::config::{FILE_FIELDS, FIXED_FIELDS};
-use crate::model::machine::{MACHINE_WORDS, STACK_CELLS};
+use crate::model::machine::{LOADED_AT, MACHINE_WORDS, STACK_CELLS};
 use crate::superseded;
 use crate::vector_parts::{from_vector, to_vector};
 use std::collections::BTreeMap;
@@ -47,7 +47,7 @@ fn same<T: PartialEq + std::fmt::Debug>(what: &str, got: T, wanted: T) -> Result
 pub fn run(calls: &dyn Calls, folder: &Path) -> Result<Report, String> {
     let mut report = Report::default();
     let none: Superseded = |_| Ok(false);
-    let files: [(&str, Check, Superseded); 13] = [
+    let files: [(&str, Check, Superseded); 16] = [
         ("read", read, superseded::line),
         ("write", write, superseded::line),
         ("step", step, superseded::line),
@@ -61,6 +61,9 @@ pub fn run(calls: &dyn Calls, folder: &Path) -> Result<Report, String> {
         ("k1-k2/read", read, none),
         ("k1-k2/step", step, none),
         ("k1-k2/text", assemble, none),
+        ("k1-k2-k4/read", read, none),
+        ("k1-k2-k4/step", marked_step, none),
+        ("k1-k2-k4/text", assemble, none),
     ];
     for (name, check, superseded) in files {
         report.lines(calls, folder, name, check, superseded)?;
@@ -167,6 +170,14 @@ fn sparse(json: &Json) -> Result<Vec<u32>, String> {
     Ok(cells)
 }
 
+/// K4's mark. Vectors of before it have none: "01's MOVX case has them loaded", and so have they, before and after.
+fn loaded_of(m: &Json) -> Result<Option<u32>, String> {
+    match m.field("loaded") {
+        Json::Null => Ok(None),
+        mark => mark.word().map(Some),
+    }
+}
+
 fn lists_of(json: &Json) -> Result<Lists, Trouble> {
     let m = json.field("m");
     let mut machine = Vec::new();
@@ -183,6 +194,7 @@ fn lists_of(json: &Json) -> Result<Lists, Trouble> {
     }
     machine.extend(stack.iter().take(STACK_CELLS));
     machine.resize(MACHINE_WORDS, 0);
+    machine[LOADED_AT] = loaded_of(m)?.unwrap_or(1);
     Ok(Lists {
         machine,
         registers: sparse(json.field("regs"))?,
@@ -222,6 +234,14 @@ fn step(calls: &dyn Calls, json: &Json) -> Outcome {
     same("cycles", answers[0], json.field("cycles").number()?)?;
     same_lists(&lists, &lists_of(json.field("after"))?)?;
     Ok(())
+}
+
+/// A step whose records have the mark.
+fn marked_step(calls: &dyn Calls, json: &Json) -> Outcome {
+    for side in ["before", "after"] {
+        same("the mark is there", loaded_of(json.field(side).field("m"))?.is_some(), true)?;
+    }
+    step(calls, json)
 }
 
 fn run_line(calls: &dyn Calls, json: &Json) -> Outcome {

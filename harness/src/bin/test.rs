@@ -14,6 +14,7 @@ use std::process::ExitCode;
 use yam_harness::calls::Calls;
 use yam_harness::cases::{Subject, SUBJECTS};
 use yam_harness::compare::Pair;
+use yam_harness::demand::{DemandSeen, POSSIBLE as POSSIBLE_BY_DEMAND};
 use yam_harness::model::Model;
 use yam_harness::random::Random;
 use yam_harness::runs::{RunsSeen, LATE};
@@ -21,8 +22,8 @@ use yam_harness::seen::{Counts, Seen};
 #[cfg(any(feature = "library", feature = "plain"))]
 use yam_harness::stack;
 use yam_harness::{
-    document, document_bytes, document_targets, document_texts, programs, refusals, signatures, vectors, LIBRARY, LIBRARY_NAME,
-    SHOWN,
+    document, document_bytes, document_index, document_targets, document_texts, programs, refusals, signatures, vectors, LIBRARY,
+    LIBRARY_NAME, SHOWN,
 };
 
 /// How much of a difference is printed.
@@ -125,6 +126,11 @@ fn test(options: &Options) -> Result<bool, String> {
         "demand 3: {} programs passed, {} of them reached the level at 0 (where above 0), {} calls, {} steps",
         seen.programs, seen.reached, seen.calls, seen.steps
     );
+    for (call, counts) in ["step", "run"].iter().zip(seen.answered) {
+        let each = POSSIBLE_BY_DEMAND.iter().zip(counts).map(|(number, count)| format!("{number}: {count}"));
+        println!("  by {call}: {}", each.collect::<Vec<_>>().join(", "));
+    }
+    println!("  MOVX carried out: {}", seen.movx);
     let texts = pair.texts;
     println!(
         "source text: plain C's assembler as the model on {} texts; {} listings of {} words read back, {} refused by 26; {} texts \
@@ -134,7 +140,8 @@ fn test(options: &Options) -> Result<bool, String> {
     let runs = pair.runs;
     println!(
         "runs made again by single steps: {}, {} steps, {} into special-register mode and {} out of it, {} off the image's end, {} to far \
-         addresses, {} of them alike modulo 512; after {LATE} steps or more {} were stopped by 5, {} by 6, {} by 7",
+         addresses, {} of them alike modulo 512; {} with a MOVX after their first LDYX; after {LATE} steps or more {} were stopped by 5, \
+         {} by 6, {} by 7, {} by 27",
         runs.runs,
         runs.steps,
         runs.entered,
@@ -142,12 +149,15 @@ fn test(options: &Options) -> Result<bool, String> {
         runs.off_end,
         runs.leaps,
         runs.leaps_alike,
+        runs.loaded,
         runs.late[0],
         runs.late[1],
-        runs.late[2]
+        runs.late[2],
+        runs.late[3]
     );
     println!("{} comparisons, {} cases with a difference", pair.compared, differences.len());
-    let met = options.case.is_some() || every_number_met(&pair.seen.numbers) & all_met(&pair.seen) & runs_met(&runs);
+    let met = options.case.is_some()
+        || every_number_met(&pair.seen.numbers) & all_met(&pair.seen) & runs_met(&runs) & demand_met(&seen);
     Ok(good && met && differences.is_empty())
 }
 
@@ -186,8 +196,8 @@ const POSSIBLE: [(&str, &[u32]); 11] = [
     ("read", &[0, 1, 5, 6, 7]),
     ("write", &[0, 1, 5, 6, 7]),
     ("reset", &[0, 3]),
-    ("step", &[0, 1, 2, 3, 4, 5, 6, 7, 8, 9, 10, 11, 12, 13, 14, 15]),
-    ("run", &[0, 1, 2, 3, 4, 5, 6, 7, 8, 9, 10, 11, 12, 13, 14, 15, 16]),
+    ("step", &[0, 1, 2, 3, 4, 5, 6, 7, 8, 9, 10, 11, 12, 13, 14, 15, 27]),
+    ("run", &[0, 1, 2, 3, 4, 5, 6, 7, 8, 9, 10, 11, 12, 13, 14, 15, 16, 27]),
     ("check", &[0, 1, 2, 17]),
     ("text", &[0, 1, 5, 6, 7, 18]),
     ("list", &[0, 1, 2, 18]),
@@ -211,7 +221,7 @@ fn every_number_met(counts: &Counts) -> bool {
         }
     }
     if met {
-        println!("every call answered every number that it can, 0 to 22, 24 to 26 and 36, and no other");
+        println!("every call answered every number that it can, 0 to 22, 24 to 27 and 36, and no other");
     }
     met
 }
@@ -232,6 +242,13 @@ fn runs_met(runs: &RunsSeen) -> bool {
         println!("the runs never met something that is counted of them: {runs:?}");
     }
     runs.all_met()
+}
+
+fn demand_met(seen: &DemandSeen) -> bool {
+    if !seen.all_met() {
+        println!("the lists of demand 3 never met something that is counted of them: {seen:?}");
+    }
+    seen.all_met()
 }
 
 fn run_document(name: &str, calls: &dyn Calls) -> bool {
@@ -255,7 +272,12 @@ fn run_document(name: &str, calls: &dyn Calls) -> bool {
         Ok(count) => println!("BLDS of every byte by document 02, {name}: all {count} as it says"),
         Err(how) => println!("BLDS of every byte by document 02, {name}: {how}"),
     }
-    result.is_ok() && texts.is_ok() && targets.is_ok() && bytes.is_ok()
+    let index = document_index::run(calls);
+    match &index {
+        Ok(count) => println!("index pointers by document 02, {name}: all {count} as it says"),
+        Err(how) => println!("index pointers by document 02, {name}: {how}"),
+    }
+    result.is_ok() && texts.is_ok() && targets.is_ok() && bytes.is_ok() && index.is_ok()
 }
 
 fn run_refusals(name: &str, calls: &dyn Calls) -> bool {
@@ -294,7 +316,7 @@ fn run_vectors(name: &str, calls: &dyn Calls, folder: &std::path::Path) -> Resul
     for (file, numbers) in &report.counts {
         let all: u32 = numbers.values().sum();
         let each: Vec<String> = numbers.iter().map(|(number, count)| format!("{number}: {count}")).collect();
-        println!("  {file:10} {all:4}   {}", each.join(", "));
+        println!("  {file:13} {all:4}   {}", each.join(", "));
     }
     for line in &report.left_out {
         println!("  left out, since the interface cannot say it: {line}");

@@ -166,27 +166,65 @@ pub fn mov_special(r: &mut Random, c: &Config) -> u32 {
     }
 }
 
+/// Whether a word of this kind does not simply go on to the next address in normal mode.
+fn leaves(kind: Kind) -> bool {
+    matches!(
+        kind,
+        Kind::Jump(_)
+            | Kind::JumpRegister(_)
+            | Kind::Call
+            | Kind::CallRegister
+            | Kind::CallBank
+            | Kind::Return
+            | Kind::ReturnLoad
+            | Kind::ReturnBank
+            | Kind::SpecialOn
+    )
+}
+
+/// Whether LDYX and MOVX can be read.
+pub fn has_movx(c: &Config) -> bool {
+    c.alu_level == 2 && c.dm_size > 0
+}
+
+pub fn load_indexes(r: &mut Random, c: &Config) -> u32 {
+    words::of_kind(r, c, Kind::LoadIndexes, |_| {})
+}
+
+/// MOVX to data memory, or from it.
+pub fn movx(r: &mut Random, c: &Config) -> u32 {
+    let kind = r.pick(&[Kind::MovxTo, Kind::MovxFrom]);
+    words::of_kind(r, c, kind, |_| {})
+}
+
+/// Puts MOVX, and mostly an LDYX before it (K4), in the place of words that go on to the next address: the rules hold as before.
+pub fn add_indexes(r: &mut Random, c: &Config, program: &mut Program) {
+    let goes_on = |at: &usize| {
+        let normal = mark(program.sheet[*at]).is_some_and(|mark| !mark.special);
+        normal && read(c, program.image[*at]).is_ok_and(|i| !leaves(i.row().kind))
+    };
+    let places: Vec<usize> = (0..program.image.len()).filter(goes_on).collect();
+    if !has_movx(c) || places.is_empty() {
+        return;
+    }
+    for _ in 0..r.below(4) {
+        program.image[r.pick(&places)] = movx(r, c);
+    }
+    if r.chance(70) {
+        let at = if r.chance(70) { places[0] } else { r.pick(&places) };
+        program.image[at] = load_indexes(r, c);
+    }
+}
+
 /// A word that can be read and goes on to the next address in normal mode.
 pub fn straight(r: &mut Random, c: &Config) -> u32 {
     loop {
         let word = words::readable(r, c);
         let Ok(instruction) = read(c, word) else { continue };
         let kind = rows()[instruction.row as usize].kind;
-        let leaves = matches!(
-            kind,
-            Kind::Jump(_)
-                | Kind::JumpRegister(_)
-                | Kind::Call
-                | Kind::CallRegister
-                | Kind::CallBank
-                | Kind::Return
-                | Kind::ReturnLoad
-                | Kind::ReturnBank
-                | Kind::SpecialOn
-        );
         // Data addresses from registers stop most programs early: fewer of them.
         let stops = matches!(kind, Kind::MovxTo | Kind::MovxFrom | Kind::MovToRegister | Kind::MovFromRegister);
-        if !leaves && (!stops || r.chance(15)) {
+        if !leaves(kind) && (!stops || r.chance(15)) {
             return word;
         }
     }

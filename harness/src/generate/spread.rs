@@ -1,6 +1,6 @@
 //! Programs spread over a large image: a few stretches of code far apart, which jump from one to the other.
 
-use super::programs::{mov_special, straight, SPR_OFF, SPR_ON};
+use super::programs::{has_movx, load_indexes, mov_special, movx, straight, SPR_OFF, SPR_ON};
 use super::words;
 use crate::model::config::Config;
 use crate::model::rows::{Base, Condition, Kind, Operand};
@@ -51,8 +51,9 @@ fn straight_beside(r: &mut Random, c: &Config, register: u32) -> u32 {
     }
 }
 
-/// A stretch from `at` on: some words, a while of special-register mode, and a way to another stretch. Where the program is not to leap all
-/// the time, often in a loop that counts a register down, and with a word that cannot be read before the way out.
+/// A stretch from `at` on: some words, a while of special-register mode, and a way to another stretch; at times an LDYX before and a MOVX
+/// behind them. Where the program is not to leap all the time, often in a loop that counts a register down, and with a word that cannot be
+/// read before the way out.
 fn stretch(r: &mut Random, c: &Config, at: u32, places: &[u32], leaping: bool) -> Vec<u32> {
     let counter = r.below(c.reg_size);
     let turns = if !leaping && r.chance(70) { r.pick(&[2, 3, 7, 16, 60, 127]) } else { 0 };
@@ -62,6 +63,9 @@ fn stretch(r: &mut Random, c: &Config, at: u32, places: &[u32], leaping: bool) -
     let mut code = Vec::new();
     if turns > 0 {
         code.push(counted(r, Kind::Mov(Operand::Signed), turns));
+    }
+    if has_movx(c) && r.chance(15) {
+        code.push(load_indexes(r, c));
     }
     let back = at + code.len() as u32;
     for _ in 0..r.from_to(1, 6) {
@@ -78,6 +82,9 @@ fn stretch(r: &mut Random, c: &Config, at: u32, places: &[u32], leaping: bool) -
     if turns > 0 {
         code.push(counted(r, Kind::Base(Base::Sub, Operand::Signed), 1));
         code.push(words::of_kind(r, c, Kind::Jump(Condition::Nz), |i| i.value = back));
+    }
+    if has_movx(c) && r.chance(20) {
+        code.push(movx(r, c));
     }
     if !leaping && r.chance(35) {
         code.push(refused(r, c));

@@ -1,7 +1,7 @@
 //! Machines, memories and logs.
 
 use crate::model::config::Config;
-use crate::model::machine::{Machine, MACHINE_WORDS};
+use crate::model::machine::{Machine, LOADED_AT, MACHINE_WORDS};
 use crate::random::Random;
 
 /// The lists that a step or a run is given.
@@ -30,6 +30,10 @@ pub fn cell(r: &mut Random, c: &Config) -> u32 {
     c.cut(u64::from(value))
 }
 
+/// The places of RX and RY in a record, which are 0 until the mark of K4 is 1.
+const RX: usize = 2;
+const RY: usize = 3;
+
 /// A machine in its ranges.
 pub fn machine(r: &mut Random, c: &Config, lists: &Lists) -> Vec<u32> {
     let mut m = Machine::at_reset();
@@ -44,8 +48,11 @@ pub fn machine(r: &mut Random, c: &Config, lists: &Lists) -> Vec<u32> {
     };
     let last_unit = (c.rm_size - c.reg_size) / 16;
     m.wp = 16 * r.below(last_unit + 1);
-    m.rx = r.below(c.reg_size);
-    m.ry = if r.chance(30) { m.rx } else { r.below(c.reg_size) };
+    m.loaded = u32::from(r.chance(75));
+    if m.loaded == 1 {
+        m.rx = r.below(c.reg_size);
+        m.ry = if r.chance(30) { m.rx } else { r.below(c.reg_size) };
+    }
     m.n = r.below(2);
     m.z = r.below(2);
     m.spr7 = if c.reg_width == 32 { 0 } else { c.cut(r.wide()) };
@@ -106,7 +113,7 @@ pub fn damage(r: &mut Random, lists: &mut Lists) {
     if lists.machine.len() != MACHINE_WORDS {
         return;
     }
-    match r.below(12) {
+    match r.below(14) {
         0 => stretch(r, &mut lists.image),
         1 => stretch(r, &mut lists.registers),
         2 => stretch(r, &mut lists.memory),
@@ -120,8 +127,15 @@ pub fn damage(r: &mut Random, lists: &mut Lists) {
                 list[place] = r.odd();
             }
         }
-        7 => lists.machine[r.from_to(80, MACHINE_WORDS as u32 - 1) as usize] = r.odd(),
+        7 => lists.machine[r.from_to(LOADED_AT as u32 + 1, MACHINE_WORDS as u32 - 1) as usize] = r.odd(),
         8 => lists.machine[r.from_to(17, 79) as usize] = r.odd(),
+        9 => lists.machine[LOADED_AT] = if r.chance(50) { 2 } else { r.odd() },
+        // Not loaded, but with an index: less than the fewest registers, so that nothing else is wrong with it.
+        10 => {
+            let index = r.from_to(1, 7);
+            let (rx, ry) = r.pick(&[(index, 0), (0, index), (index, index)]);
+            (lists.machine[RX], lists.machine[RY], lists.machine[LOADED_AT]) = (rx, ry, 0);
+        }
         _ => {
             let place = r.below(17) as usize;
             lists.machine[place] = match r.below(3) {

@@ -6,6 +6,9 @@ use super::config::Config;
 pub const MACHINE_WORDS: usize = 100;
 pub const STACK_CELLS: usize = 63;
 const STACK_AT: usize = 17;
+/// K4's mark, the first word behind the stack, and what is left behind it.
+pub const LOADED_AT: usize = STACK_AT + STACK_CELLS;
+const REST_AT: usize = LOADED_AT + 1;
 
 #[derive(Clone, Debug, PartialEq, Eq)]
 pub struct Machine {
@@ -25,12 +28,14 @@ pub struct Machine {
     pub input_position: u64,
     pub log_position: u64,
     pub stack: [u32; STACK_CELLS],
+    /// K4: 1 once an LDYX has run since reset.
+    pub loaded: u32,
     /// The list's last words, kept for later fields: zeros.
-    pub rest: [u32; MACHINE_WORDS - STACK_AT - STACK_CELLS],
+    pub rest: [u32; MACHINE_WORDS - REST_AT],
 }
 
 impl Machine {
-    /// "Reset: PC, WP, RX, RY, flags, SPR7, stack, positions 0; both masks 15; normal mode; no posted write."
+    /// "Reset: PC, WP, RX, RY, flags, SPR7, stack, positions 0; both masks 15; normal mode; no posted write." No LDYX has run (K4).
     pub fn at_reset() -> Machine {
         Machine {
             pc: 0,
@@ -49,7 +54,8 @@ impl Machine {
             input_position: 0,
             log_position: 0,
             stack: [0; STACK_CELLS],
-            rest: [0; 20],
+            loaded: 0,
+            rest: [0; MACHINE_WORDS - REST_AT],
         }
     }
 
@@ -73,8 +79,9 @@ impl Machine {
             posted_address: w[12],
             input_position: wide(13),
             log_position: wide(15),
-            stack: w[STACK_AT..STACK_AT + STACK_CELLS].try_into().expect("63 cells"),
-            rest: w[STACK_AT + STACK_CELLS..].try_into().expect("20 words"),
+            stack: w[STACK_AT..LOADED_AT].try_into().expect("63 cells"),
+            loaded: w[LOADED_AT],
+            rest: w[REST_AT..].try_into().expect("19 words"),
         })
     }
 
@@ -100,12 +107,13 @@ impl Machine {
             (self.log_position >> 32) as u32,
         ];
         w[..STACK_AT].copy_from_slice(&head);
-        w[STACK_AT..STACK_AT + STACK_CELLS].copy_from_slice(&self.stack);
-        w[STACK_AT + STACK_CELLS..].copy_from_slice(&self.rest);
+        w[STACK_AT..LOADED_AT].copy_from_slice(&self.stack);
+        w[LOADED_AT] = self.loaded;
+        w[REST_AT..].copy_from_slice(&self.rest);
         w
     }
 
-    /// "A record is in its ranges when ...", clause by clause.
+    /// "A record is in its ranges when ...", clause by clause; "The record says loaded or not, and RX and RY are 0 until loaded" (K4).
     pub fn is_in_ranges(&self, c: &Config, inputs: usize, log: usize) -> bool {
         let w = c.reg_width;
         let fits = |value: u32| u64::from(value) < 1 << w;
@@ -115,7 +123,8 @@ impl Machine {
             && u64::from(self.wp) + u64::from(c.reg_size) <= u64::from(c.rm_size)
             && self.rx < c.reg_size
             && self.ry < c.reg_size
-            && [self.n, self.z, self.mode, self.posted].iter().all(|&mark| mark <= 1)
+            && [self.n, self.z, self.mode, self.posted, self.loaded].iter().all(|&mark| mark <= 1)
+            && (self.loaded == 1 || (self.rx, self.ry) == (0, 0))
             && self.imask <= 15
             && self.saved_mask <= 15
             && fits(self.spr7)

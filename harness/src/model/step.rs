@@ -1,4 +1,4 @@
-//! "One step": stops 4 to 15 in the table's order, then what the instruction does.
+//! "One step": stops 4 to 9, 27 (K4) and 10 to 15, in this order, then what the instruction does.
 
 use super::alu::{self, Outcome};
 use super::config::Config;
@@ -47,7 +47,7 @@ fn data_address(i: &Instruction, m: &Machine, lists: &Lists) -> Option<u32> {
     Some(register(m, lists, number) % 0x1_0000)
 }
 
-/// The number that stops an instruction which was read, 8 to 15, or 0.
+/// The number that stops an instruction which was read, 8, 9, 27 and 10 to 15, or 0.
 fn stop(env: &Env, i: &Instruction, m: &Machine, lists: &Lists) -> u32 {
     let c = env.config;
     let kind = i.row().kind;
@@ -56,6 +56,10 @@ fn stop(env: &Env, i: &Instruction, m: &Machine, lists: &Lists) -> u32 {
     }
     if reads_port(kind) && m.posted == 1 && m.posted_address != register(m, lists, i.source) {
         return 9;
+    }
+    // "MOVX before that is a stop": "27, after 9 and before 10".
+    if matches!(kind, Kind::MovxTo | Kind::MovxFrom) && m.loaded == 0 {
+        return 27;
     }
     if matches!(kind, Kind::Call | Kind::CallRegister) && m.depth == c.stack_limit() {
         return 10;
@@ -166,6 +170,7 @@ fn carry_out(env: &Env, i: &Instruction, m: &mut Machine, lists: &mut Lists) -> 
         Kind::LoadIndexes => {
             m.ry = i.destination;
             m.rx = i.source;
+            m.loaded = 1;
             flags = Outcome { value: 0, z: Some(m.rx == m.ry), n: Some(false) };
         }
         Kind::MovxTo | Kind::MovxFrom => {
