@@ -48,10 +48,10 @@ fn places_fit(c: Config, m: Core) -> bool
 {
     let bank = sum_within(m.wp, c.regsize, c.rmsize);
     let size = c.regsize as usize;
-    let unloaded = !(m.loaded == 0) | ((m.rx == 0) & (m.ry == 0));
+    let until_loaded = !(m.loaded == 0) | ((m.rx == 0) & (m.ry == 0));
     (m.pc < Machine::PC_LIMIT)
         & ((m.wp % 16 == 0)
-            & (bank & ((m.rx < size) & ((m.ry < size) & ((m.loaded <= 1) & unloaded)))))
+            & (bank & ((m.rx < size) & ((m.ry < size) & ((m.loaded <= 1) & until_loaded)))))
 }
 
 fn marks_fit(c: Config, m: Core) -> bool

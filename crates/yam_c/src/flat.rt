@@ -43,6 +43,14 @@ fn cell(flat: &[u32], i: usize) -> u32
     if i < flat.len() { flat[i] } else { 0 }
 }
 
+// Word i, which is there.
+fn word(flat: &[u32], i: usize) -> u32
+    requires { ⌜ i < length (now flat) ⌝ }
+    ensures { λ r. ⌜ r ≡ getD (now (flat .entry)) i 0 ⌝ }
+{
+    flat[i]
+}
+
 // Stores v at place i, if that is there.
 fn put(flat: &mut [u32], i: usize, v: u32)
     ensures { λ _. ⌜ now (flat .exit) ≡ set (now (flat .entry)) i v ⌝ }
@@ -221,25 +229,26 @@ pub fn machine_shaped(flat: &[u32]) -> bool
 
 // The core in the words of a machine.
 pub fn core_in(flat: &[u32]) -> Core
+    requires { ⌜ length (now flat) ≡ 100 ⌝ }
     ensures { λ r. ⌜ r ≡ coreIn (now (flat .entry)) ⌝ }
 {
     Core {
-        pc: cell(flat, 0) as usize,
-        wp: cell(flat, 1) as usize,
-        rx: cell(flat, 2) as usize,
-        ry: cell(flat, 3) as usize,
-        loaded: cell(flat, LOADED_AT),
-        n: cell(flat, 4) as u64,
-        z: cell(flat, 5) as u64,
-        spr7: cell(flat, 6) as u64,
-        depth: cell(flat, 7) as usize,
-        imask: cell(flat, 8) as u64,
-        saved: cell(flat, 9) as u64,
-        mode: cell(flat, 10) as u64,
-        posted: cell(flat, 11),
-        port: cell(flat, 12) as u64,
-        taken: wide(cell(flat, 13), cell(flat, 14)),
-        logged: wide(cell(flat, 15), cell(flat, 16)),
+        pc: word(flat, 0) as usize,
+        wp: word(flat, 1) as usize,
+        rx: word(flat, 2) as usize,
+        ry: word(flat, 3) as usize,
+        loaded: word(flat, LOADED_AT),
+        n: word(flat, 4) as u64,
+        z: word(flat, 5) as u64,
+        spr7: word(flat, 6) as u64,
+        depth: word(flat, 7) as usize,
+        imask: word(flat, 8) as u64,
+        saved: word(flat, 9) as u64,
+        mode: word(flat, 10) as u64,
+        posted: word(flat, 11),
+        port: word(flat, 12) as u64,
+        taken: wide(word(flat, 13), word(flat, 14)),
+        logged: wide(word(flat, 15), word(flat, 16)),
     }
 }
 
