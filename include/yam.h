@@ -25,9 +25,9 @@ extern "C" {
 
 /* A machine record: 0 PC, 1 WP, 2 RX, 3 RY, 4 N, 5 Z, 6 SPR7, 7 how many addresses the return stack holds, 8 IMask, 9 the mask that SPR_ON saved,
    10 mode (1: special-register mode), 11 posted mark, 12 posted address, 13 and 14 how many inputs were taken (low word, high word), 15 and 16 how many
-   places of the log are filled (low word, high word), 17 to 79 the return stack, oldest address first, zeros above, 80 loaded: 1
-   once an LDYX has run since reset, else 0, and RX and RY are 0 then, 81 to 99 zeros. Another length, or one of the last nineteen not zero, is refused
-   by 3, after 1 and 2. */
+   places of the log are filled (low word, high word), 17 to 79 the return stack, oldest address first, zeros above, 80 loaded (1 once an LDYX has run
+   since reset; until then 0, and so are RX and RY), 81 to 99 zeros. Another length, or one of the last nineteen not zero, is refused by 3, after 1
+   and 2. */
 #define YAM_MACHINE_WORDS 100
 
 /* An instruction: 0 row (yam_rows.h), 1 flag, 2 destination, 3 source, 4 byte number, 5 value. Parts are named by their place in the word:
