@@ -1,4 +1,5 @@
 pub mod Written
+pub mod Spelled
 pub mod Tidy
 pub mod Printed
 pub mod Whole

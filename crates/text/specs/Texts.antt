@@ -7,6 +7,7 @@ use Rattle.laws.specs.Choice.{pick}
 use Rattle.laws.specs.Test.{most}
 use Rattle.laws.specs.First.{first-failing}
 use Rattle.words.specs.declared.Config.{Config}
+use Rattle.words.specs.Configs.{lawful}
 use Rattle.words.specs.Words.{readLawful, readOf}
 use Rattle.syntax.specs.Quoted.{quoted}
 use Rattle.syntax.specs.Forms.{textOf}
@@ -53,3 +54,9 @@ shownText r t = pick (eqb r 0) (pick (ltb textLimit (length t)) (refusedText 23)
 
 unfoldable pub wordText : Config → ℕ → List ℕ
 wordText c w = let r = readLawful c w in shownText (r .number) (textOf c (r .instruction))
+
+-- what stands in a listing for the word, by itself: 1, then "listing page too small" (18)
+unfoldable pub shownCall : Config → ℕ → List ℕ → ℕ → Text
+shownCall c w page place =
+    let t = wordText c w in
+    printed (first-failing ((1, lawful c) ∷ (18, most (place + length t) (length page)) ∷ [])) t page place

@@ -11,6 +11,7 @@ mod texts;
 mod writers;
 
 pub use listing::list;
+pub use listing::shown;
 pub use pages::Page;
 pub use texts::text;
 

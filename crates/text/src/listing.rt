@@ -1,16 +1,23 @@
 // The listing of an image.
 ghost use mathlib.Core.Path.{_≡_};
-ghost use Prim.Native.Nat.{_-_};
+ghost use mathlib.Core.List.{_∷_, []};
+ghost use Prim.Native.Nat.{_+_, _-_};
 ghost use lib.ListN.{length};
-ghost use Rattle.laws.specs.Test.{Holds};
+ghost use Rattle.laws.specs.First.{first-failing};
+ghost use Rattle.laws.specs.Test.{Holds, most};
 ghost use Rattle.words.specs.Configs.{lawful};
 ghost use Rattle.words.specs.Lookup.{Limits};
 ghost use Rattle.words.specs.Packed.{Tables};
-ghost use Rattle.text.specs.Answers.{listedOf};
+ghost use Rattle.text.specs.Answers.{listedOf, textedOf};
 ghost use Rattle.text.specs.Claims.{Lists};
 ghost use Rattle.text.specs.Lines.{listed, listNumber, listOf};
-ghost use Rattle.text.specs.Packed.{Lent, pairTable};
+ghost use Rattle.text.specs.Packed.{Lent, pairTable, formText};
+ghost use Rattle.text.specs.Texts.{printed, shownCall};
 use crate::Listed;
+use crate::Texted;
+use crate::forms::Form;
+use crate::forms::form_len;
+use crate::forms::put_form;
 use crate::lines::line_len;
 use crate::lines::put_line;
 use crate::lines::word_form;
@@ -131,6 +138,51 @@ fn list_answer(c: Config, image: &[u32], first: usize, page: &mut [u8], place: u
         page,
         place,
     )
+}
+
+// A form from the place on; 18 where it has no room.
+fn put_shown(page: &mut [u8], place: usize, f: Form) -> Texted
+    ensures { λ r. ⌜ textedOf r (now (page .exit)) ≡ printed (first-failing ((18, most (place + length (formText f)) (length (now (page .entry)))) ∷ [])) (formText f) (now (page .entry)) place ⌝ }
+{
+    if !has_room(page.len(), place, form_len(f)) {
+        return Texted { number: 18, place };
+    }
+    Texted {
+        number: 0,
+        place: put_form(page, place, f),
+    }
+}
+
+// Writes what stands in a listing for word w, from the place on; 1 and 18 leave the page as it was.
+pub fn shown(c: Config, w: u32, page: &mut [u8], place: usize) -> Texted
+    ensures { λ r. ⌜ textedOf r (now (page .exit)) ≡ shownCall c w (now (page .entry)) place ⌝ }
+{
+    if !c.lawful() {
+        return Texted { number: 1, place };
+    }
+    let classes = words::class_table();
+    let bases = words::base_table();
+    let packs = words::row_table();
+    let entries = words::entry_table();
+    let uppers = words::upper_limits(c);
+    let lowers = words::lower_limits(c);
+    let strings = string_table();
+    let sizes = size_table();
+    let styles = style_table();
+    let f = word_form(
+        c,
+        &classes,
+        &bases,
+        &packs,
+        &entries,
+        &uppers,
+        &lowers,
+        &strings,
+        &sizes,
+        &styles,
+        w,
+    );
+    put_shown(page, place, f)
 }
 
 // Appends whole lines from address `first` to the image's end. 18 keeps the whole lines; every other byte of the page stays (specs/Claims.antt).

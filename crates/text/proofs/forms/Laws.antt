@@ -21,7 +21,7 @@ use Rattle.text.specs.Printed.{strings, styleTable}
 use Rattle.text.specs.Packed.{packedFrom, stringTable, sizeTable, Lent, Named, pieceText, formText, pieceLent, shownPart, lastMark, formIn, formLent}
 use Rattle.text.specs.declared.forms.Piece.{Piece}
 use Rattle.text.specs.declared.forms.Form.{Form}
-use Rattle.text.proofs.writers.Laws.{length-spelled}
+use Rattle.text.proofs.Spelled.{length-spelled}
 use Rattle.text.proofs.Printed.{string, packed-bytes, packed-text}
 
 -- lengths

@@ -16,7 +16,7 @@ use Rattle.words.specs.Configs.{lawful}
 use Rattle.text.specs.Pages.{written, Wrote}
 use Rattle.text.specs.Texts.{wordText}
 use Rattle.text.specs.Lines.{lineOf, lineAt, Listing, listing, listed, listNumber, listOf}
-use Rattle.text.proofs.writers.Laws.{length-spelled}
+use Rattle.text.proofs.Spelled.{length-spelled}
 
 pub length-line : (a w : ℕ) (t : List ℕ) → length (lineOf a w t) ≡ length t + 17
 unfolding lineOf

@@ -1,6 +1,6 @@
 -- `text::forms::put_piece` meets its contract. Assumes nothing.
 use Rattle.text.proofs.Written.{then}
-use Rattle.text.proofs.writers.Laws.{length-spelled}
+use Rattle.text.proofs.Spelled.{length-spelled}
 -- `text::forms::put_piece` meets its contract. Assumes nothing.
 use native.Mathlib.Omega.{arith}
 use Rattle.text.specs.Packed.{pieceText}

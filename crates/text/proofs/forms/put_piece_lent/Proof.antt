@@ -2,7 +2,7 @@
 use native.Mathlib.Omega.{arith}
 use Rattle.text.specs.Packed.{pieceText}
 use Rattle.text.proofs.Written.{then}
-use Rattle.text.proofs.writers.Laws.{length-spelled}
+use Rattle.text.proofs.Spelled.{length-spelled}
 use Rattle.text.proofs.forms.Laws.{length-piece}
 use borrow.Author.Needs.{needs}
 use Rattle.text.proofs.forms.put_piece_lent.Statement.{statement}

@@ -3,7 +3,7 @@ use native.Mathlib.Omega.{arith}
 use Rattle.syntax.specs.Digits.{digit}
 use Rattle.text.specs.Lines.{lineOf}
 use Rattle.text.proofs.Written.{then}
-use Rattle.text.proofs.writers.Laws.{length-spelled}
+use Rattle.text.proofs.Spelled.{length-spelled}
 use borrow.Author.Needs.{needs}
 use Rattle.text.proofs.lines.put_line.Statement.{statement}
 use Rattle.text.proofs.lines.put_line.Tie as tie

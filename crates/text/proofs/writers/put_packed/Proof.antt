@@ -4,7 +4,7 @@ use mathlib.Core.Path.{_≡_, refl}
 use lib.ListN.{length, length-set}
 use lib.Seq.{sets}
 use Rattle.syntax.specs.Digits.{spelled}
-use Rattle.text.proofs.writers.Laws.{digit-next, digits-done}
+use Rattle.text.proofs.Spelled.{digit-next, digits-done}
 use native.Mathlib.Omega.{arith}
 use Rattle.text.proofs.writers.put_packed.Statement.{statement}
 use Rattle.text.proofs.writers.put_packed.Tie as tie

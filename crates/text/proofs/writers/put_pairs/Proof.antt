@@ -5,7 +5,8 @@ use lib.ListN.{length, length-set}
 use lib.Seq.{sets}
 use Rattle.syntax.specs.Digits.{digit, hex}
 use native.Mathlib.Omega.{arith}
-use Rattle.text.proofs.writers.Laws.{pair-at, pair-next, digits-done, digit-last}
+use Rattle.text.proofs.Spelled.{digits-done}
+use Rattle.text.proofs.writers.Laws.{pair-at, pair-next, digit-last}
 use Rattle.text.proofs.writers.put_pairs.Statement.{statement}
 use Rattle.text.proofs.writers.put_pairs.Tie as tie
 
