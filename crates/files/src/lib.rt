@@ -1,4 +1,4 @@
-// Reading a file, so that a read that fails is told from the file's end.
+// Writing a page, and reading a file, by its descriptor or its name, so that a read that fails is told from the file's end.
 ghost use Prim.Native.Nat.{_≤_};
 ghost use Rattle.io.specs.Counts.{Counts};
 
@@ -45,4 +45,38 @@ pub fn read_all(fd: i32, to: &mut [u8]) -> Input
         bytes: done,
         failed: false,
     }
+}
+
+// Reads the named file; what cannot be opened or read is said on standard error.
+pub fn read_file(path: &[u8], to: &mut [u8]) -> Input
+    ensures { λ r. ⌜ Counts (r .bytes) (now (to .exit)) ⌝ }
+{
+    let fd = os::open_read(path);
+    if fd < 0 {
+        os::fail(path);
+        return Input {
+            bytes: 0,
+            failed: true,
+        };
+    }
+    let input = read_all(fd, to);
+    if input.failed {
+        os::fail(path);
+    }
+    libc::close(fd);
+    input
+}
+
+// Writes the first so many bytes of a page to standard output, and says on standard error where that fails. A place beyond the page, which its writers
+// answer where they had no room, writes nothing there.
+pub fn print(page: &[u8], bytes: usize) -> bool {
+    if page.len() < bytes {
+        io::write_all(2, b"the answer has no room on its page\n");
+        return false;
+    }
+    if !io::write_all(1, &page[..bytes]) {
+        os::fail(b"standard output");
+        return false;
+    }
+    true
 }

@@ -3,14 +3,23 @@
 ghost use Prim.Native.Nat.{_<_, _≤_, _+_};
 ghost use mathlib.Core.Path.{_≡_};
 ghost use lib.Dec.{leb};
-ghost use lib.ListN.{length};
+ghost use lib.ListN.{length, getD};
 ghost use Rattle.syntax.specs.Digits.{digit, hex};
 ghost use Rattle.text.specs.Pages.{Wrote};
-ghost use Rattle.printing.specs.Numerals.{decimal};
+ghost use Rattle.printing.specs.Numerals.{decimal, refusalLine};
+ghost use Rattle.printing.specs.Entries.{shownWord, entryOf, EntryIsLine};
 ghost use Rattle.printing.specs.Puts.{Puts};
+use words::Config;
 
 // The bytes of the largest decimal number of 64 bits.
 const DECIMAL_BYTES: usize = 20;
+
+// Document 01's number for a page without room.
+const NO_ROOM: u32 = 18;
+
+const ADDRESS_DIGITS: usize = 6;
+
+const WORD_DIGITS: usize = 8;
 
 // Whether n bytes have room from the place on.
 fn has_room(size: usize, at: usize, n: usize) -> bool
@@ -88,4 +97,46 @@ pub fn put_decimal(page: &mut [u8], at: usize, n: u64) -> usize
     let mut digits = [0u8; DECIMAL_BYTES];
     let k = io::decimal(n, &mut digits);
     put_bytes(page, at, &digits[..k])
+}
+
+// Puts the line of a refusal.
+pub fn put_refusal(page: &mut [u8], at: usize, number: u32) -> usize
+    ensures { λ r. ⌜ Puts (now (page .entry)) at (refusalLine number) r (now (page .exit)) ⌝ }
+{
+    let i = put_bytes(page, at, b"refused ");
+    let j = put_decimal(page, i, number as u64);
+    put_bytes(page, j, b"\n")
+}
+
+// Puts what stands in a listing for word w; nothing where the configuration is unlawful.
+pub fn put_shown(c: Config, w: u32, page: &mut [u8], at: usize) -> usize
+    ensures { λ r. ⌜ Puts (now (page .entry)) at (shownWord c w) r (now (page .exit)) ⌝ }
+{
+    let r = text::shown(c, w, page, at);
+    if r.number == NO_ROOM {
+        return beyond(page);
+    }
+    r.place
+}
+
+fn word_at(image: &[u32], address: usize) -> u32
+    ensures { λ r. ⌜ r ≡ getD (now (image .entry)) address 0 ⌝ }
+{
+    if address < image.len() {
+        image[address]
+    } else {
+        0
+    }
+}
+
+// Puts a listing's line of an address, but for its newline.
+pub fn put_entry(c: Config, image: &[u32], address: usize, page: &mut [u8], at: usize) -> usize
+    ensures { λ r. ⌜ Puts (now (page .entry)) at (entryOf c (now (image .entry)) address) r (now (page .exit)) × EntryIsLine ⌝ }
+{
+    let w = word_at(image, address);
+    let i = put_hex(page, at, ADDRESS_DIGITS, address as u64);
+    let j = put_bytes(page, i, b" ");
+    let k = put_hex(page, j, WORD_DIGITS, w as u64);
+    let l = put_bytes(page, k, b" ");
+    put_shown(c, w, page, l)
 }

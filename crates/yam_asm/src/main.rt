@@ -7,8 +7,8 @@ ghost use Prim.Native.Nat.{_≤_};
 ghost use Rattle.io.specs.Counts.{Counts};
 ghost use Rattle.yam_asm.specs.Making.{made, madeOf};
 use assembler::Assembled;
-use files::Input;
 use files::read_all;
+use files::read_file;
 use words::Config;
 
 const WORDS: usize = 8192;
@@ -37,26 +37,6 @@ fn within(n: usize, most: usize) -> usize
     ensures { λ r. ⌜ r ≤ most ⌝ }
 {
     if n < most { n } else { most }
-}
-
-// Reads the named file.
-fn read_file(path: &[u8], to: &mut [u8]) -> Input
-    ensures { λ r. ⌜ Counts (r .bytes) (now (to .exit)) ⌝ }
-{
-    let fd = os::open_read(path);
-    if fd < 0 {
-        os::fail(path);
-        return Input {
-            bytes: 0,
-            failed: true,
-        };
-    }
-    let input = read_all(fd, to);
-    if input.failed {
-        os::fail(path);
-    }
-    libc::close(fd);
-    input
 }
 
 // IM_SIZE, or how many words there are where that is above it.

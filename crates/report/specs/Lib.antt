@@ -1,0 +1,4 @@
+pub mod Fields
+pub mod Cells
+pub mod Report
+pub mod Trace
