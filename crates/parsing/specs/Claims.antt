@@ -6,21 +6,37 @@ use mathlib.Core.List.{List, [], _∷_}
 use lib.ListN.{length, take, drop}
 use lib.Seq.{sets}
 use Rattle.laws.specs.Test.{Below}
+use Rattle.parsing.specs.declared.Generics.{Generics}
 use Rattle.parsing.specs.declared.HexWords.{HexWords}
 use Rattle.parsing.specs.declared.Line.{Line}
 use Rattle.parsing.specs.declared.Span.{Span}
 use Rattle.parsing.specs.Words.{Reading, good, bad, before, wordsFrom, wordsIn, Call, call, callOf, printed}
 use Rattle.parsing.specs.Entries.{entriesOf}
-use Rattle.parsing.specs.Generics.{Gathered, all, malformed, gather}
+use Rattle.parsing.specs.Generics.{Gathered, all, malformed, gather, gatheredIn, genericsOf}
 
 -- Words printed hex 8, one a line, are read back.
 abbrev pub PrintedWords : Type 0
 PrintedWords = (ws : List ℕ) → Below (2 ^ 32) ws → wordsIn (printed ws) ≡ good ws
 
+-- a bad line, and a malformed entry, has a number from 1 on: 0 says that there is none
+abbrev pub Counted : Reading → Type 0
+Counted (good ws) = Unit {0}
+Counted (bad k) = 0 < k
+
+abbrev pub CountedEntry : Gathered → Type 0
+CountedEntry (all vs) = Unit {0}
+CountedEntry (malformed k) = 0 < k
+
 -- what `hex_words` promises of its answer r and of what the words lent then hold
 pub record ReadsWords (text lent : List ℕ) (r : HexWords) (after : List ℕ) : Type 0 where
   pub answer : call (r .count) (r .line) after ≡ callOf (wordsIn text) lent
+  pub counted : Counted (wordsIn text)
   pub back : PrintedWords
+
+-- what `generics_of` promises of its answer r
+pub record NamesGenerics (text : List ℕ) (r : Generics) : Type 0 where
+  pub answer : r ≡ genericsOf (gatheredIn text)
+  pub counted : CountedEntry (gatheredIn text)
 
 -- a line read from a place on: its word and where the next line starts, or that it is in another form
 pub record ReadsLine (text : List ℕ) (from : ℕ) (l : Line) : Type 0 where

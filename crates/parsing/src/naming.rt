@@ -4,8 +4,8 @@ ghost use mathlib.Core.List.{[]};
 ghost use Prim.Native.Nat.{_≤_, _<_};
 ghost use lib.ListN.{length, getD};
 ghost use Rattle.syntax.specs.Pieces.{equal};
-ghost use Rattle.parsing.specs.Generics.{genericCount, names, defaults, configOf, placeOf, given, givenBy, gatheredIn, genericsOf};
-ghost use Rattle.parsing.specs.Claims.{GathersAll};
+ghost use Rattle.parsing.specs.Generics.{genericCount, names, defaults, configOf, placeOf, given, givenBy};
+ghost use Rattle.parsing.specs.Claims.{GathersAll, NamesGenerics};
 use crate::Entry;
 use crate::Generics;
 use crate::Kind;
@@ -179,7 +179,7 @@ fn config_of(v: &[u32; 19]) -> Config
 
 // The configuration that the entries of a text name.
 pub fn generics_of(text: &[u8]) -> Generics
-    ensures { λ r. ⌜ r ≡ genericsOf (gatheredIn (now (text .entry))) ⌝ }
+    ensures { λ r. ⌜ NamesGenerics (now (text .entry)) r ⌝ }
 {
     let mut marks = [false; 19];
     let mut values = default_values();
