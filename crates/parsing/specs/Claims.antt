@@ -19,24 +19,24 @@ abbrev pub PrintedWords : Type 0
 PrintedWords = (ws : List ℕ) → Below (2 ^ 32) ws → wordsIn (printed ws) ≡ good ws
 
 -- a bad line, and a malformed entry, has a number from 1 on: 0 says that there is none
-abbrev pub Counted : Reading → Type 0
-Counted (good ws) = Unit {0}
-Counted (bad k) = 0 < k
+abbrev pub LineFromOne : Reading → Type 0
+LineFromOne (good ws) = Unit {0}
+LineFromOne (bad k) = 0 < k
 
-abbrev pub CountedEntry : Gathered → Type 0
-CountedEntry (all vs) = Unit {0}
-CountedEntry (malformed k) = 0 < k
+abbrev pub EntryFromOne : Gathered → Type 0
+EntryFromOne (all vs) = Unit {0}
+EntryFromOne (malformed k) = 0 < k
 
 -- what `hex_words` promises of its answer r and of what the words lent then hold
 pub record ReadsWords (text lent : List ℕ) (r : HexWords) (after : List ℕ) : Type 0 where
   pub answer : call (r .count) (r .line) after ≡ callOf (wordsIn text) lent
-  pub counted : Counted (wordsIn text)
+  pub counted : LineFromOne (wordsIn text)
   pub back : PrintedWords
 
 -- what `generics_of` promises of its answer r
 pub record NamesGenerics (text : List ℕ) (r : Generics) : Type 0 where
   pub answer : r ≡ genericsOf (gatheredIn text)
-  pub counted : CountedEntry (gatheredIn text)
+  pub counted : EntryFromOne (gatheredIn text)
 
 -- a line read from a place on: its word and where the next line starts, or that it is in another form
 pub record ReadsLine (text : List ℕ) (from : ℕ) (l : Line) : Type 0 where

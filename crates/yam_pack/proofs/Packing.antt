@@ -22,7 +22,7 @@ use Rattle.parsing.specs.declared.Generics.{Generics}
 use Rattle.parsing.specs.declared.HexWords.{HexWords}
 use Rattle.parsing.specs.Words.{Reading, good, bad, wordsIn, Call, call, callOf}
 use Rattle.parsing.specs.Generics.{Gathered, all, malformed, gatheredIn, configOf, genericsOf}
-use Rattle.parsing.specs.Claims.{Counted, CountedEntry, ReadsWords, NamesGenerics}
+use Rattle.parsing.specs.Claims.{LineFromOne, EntryFromOne, ReadsWords, NamesGenerics}
 use Rattle.yam_pack.specs.Packing.{Packed, long, entry, line, refused, file, configBytes, textBytes, mostWords, packTests, imageOf, withWords, withConfig, packedOf}
 
 -- The image of so many words
@@ -107,7 +107,7 @@ module _ (config text : List ℕ) (short : length config ≤ configBytes) (g : G
     second : packedOf config text ≡ pick (leb (length text) textBytes) (withWords (g .config) (wordsIn text)) (long textBytes)
     second = rw first (go (gatheredIn config) (n .answer) (n .counted))
       where
-        go : (x : Gathered) → g ≡ genericsOf x → CountedEntry x →
+        go : (x : Gathered) → g ≡ genericsOf x → EntryFromOne x →
             withConfig x text ≡ pick (leb (length text) textBytes) (withWords (g .config) (wordsIn text)) (long textBytes)
         go (all vs) e k = rw (ap (λ (y : Generics). y .config) e)
         go (malformed m) e k = let q : g .entry ≡ m = ap (λ (y : Generics). y .entry) e in absurd (omega arith)
@@ -131,7 +131,7 @@ module _ (config text : List ℕ) (short : length config ≤ configBytes) (g : G
       pub is-packed : h .line ≡ 0 → length lent ≡ mostWords → (x : Packed) → x ≡ imageOf (g .config) (h .count) (take (h .count) after) → x ≡ packedOf config text
       is-packed z m x e = e ∙ rw third (go (wordsIn text) (r .answer) (r .counted))
         where
-          go : (y : Reading) → call (h .count) (h .line) after ≡ callOf y lent → Counted y →
+          go : (y : Reading) → call (h .count) (h .line) after ≡ callOf y lent → LineFromOne y →
               imageOf (g .config) (h .count) (take (h .count) after) ≡ withWords (g .config) y
           go (good ws) e k =
               let n : h .count ≡ length ws = ap (λ (y : Call). y .count) e in
