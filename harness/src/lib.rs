@@ -16,6 +16,7 @@ pub mod indexes;
 pub mod inputs;
 pub mod json;
 pub mod model;
+pub mod places;
 pub mod programs;
 pub mod random;
 pub mod refusals;

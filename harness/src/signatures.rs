@@ -1,14 +1,17 @@
-//! Whether include/yam.h declares what crates/yam_c/src/lib.rt exports: names, parameters in their order, types, answers.
+//! Whether include/yam.h, and bindings/rust/src/raw.rs with it, declare what crates/yam_c/src/lib.rt exports: names, parameters in their order,
+//! types, answers.
 
 use crate::model::config::CONFIG_WORDS;
 use crate::model::machine::MACHINE_WORDS;
 use crate::model::rows::rows;
 use crate::model::words::Instruction;
+use crate::places;
 use std::collections::BTreeMap;
 
 const SOURCE: &str = include_str!("../../crates/yam_c/src/lib.rt");
 const HEADER: &str = include_str!("../../include/yam.h");
 const ROWS: &str = include_str!("../../include/yam_rows.h");
+const RAW: &str = include_str!("../../bindings/rust/src/raw.rs");
 const EVERY_CALL: &str = include_str!("../header/every_call.c");
 
 /// Parameters that have a longer name in C.
@@ -70,7 +73,7 @@ fn exported(source: &str) -> Result<Functions, String> {
 }
 
 /// Text without comments.
-fn without_comments(header: &str) -> String {
+pub fn without_comments(header: &str) -> String {
     let parts = header.split("/*").enumerate();
     parts.map(|(index, part)| if index == 0 { part } else { part.split_once("*/").map_or("", |(_, after)| after) }).collect()
 }
@@ -101,7 +104,7 @@ fn declared(header: &str) -> Result<Functions, String> {
 }
 
 /// The number that a header defines.
-fn defined(header: &str, name: &str) -> Option<usize> {
+pub fn defined(header: &str, name: &str) -> Option<usize> {
     header.lines().find_map(|line| line.strip_prefix("#define ")?.strip_prefix(name)?.strip_prefix(' ')?.trim().parse().ok())
 }
 
@@ -130,6 +133,53 @@ fn compare(source: &str, header: &str) -> Result<usize, String> {
     Ok(exported.len())
 }
 
+/// A parameter or an answer of C as Rust writes its type.
+fn rust_type(c: &str) -> Result<&'static str, String> {
+    match c {
+        "uint8_t" => Ok("u8"),
+        "uint32_t" => Ok("u32"),
+        "uint64_t" => Ok("u64"),
+        "size_t" => Ok("usize"),
+        _ => Err(format!("{c}: no such type crosses the interface")),
+    }
+}
+
+/// A parameter of C as Rust declares it.
+fn rust_parameter(c: &str) -> Result<String, String> {
+    let (head, name) = c.rsplit_once(' ').ok_or(format!("{c}: no parameter"))?;
+    Ok(match (head.strip_prefix("const "), name.strip_prefix('*')) {
+        (Some(element), Some(name)) => format!("{name}: *const {}", rust_type(element)?),
+        (None, Some(name)) => format!("{name}: *mut {}", rust_type(head)?),
+        _ => format!("{name}: {}", rust_type(head)?),
+    })
+}
+
+/// How the bindings for Rust do not declare what the source exports; how many functions there are where they do.
+fn compare_rust(source: &str, raw: &str) -> Result<usize, String> {
+    let lines = raw.lines().filter(|line| !line.trim_start().starts_with("//"));
+    let text = lines.collect::<Vec<_>>().join(" ");
+    let inside = text.split_once("extern \"C\" {").and_then(|(_, rest)| rest.split_once('}'));
+    let (inside, after) = inside.ok_or("raw.rs: no extern \"C\" with braces")?;
+    let found: Vec<String> = inside.split(';').map(|declaration| declaration.split_whitespace().collect()).collect();
+    let mut wanted = Vec::new();
+    for (name, function) in exported(source)? {
+        let parameters: Result<Vec<String>, String> = function.parameters.iter().map(|c| rust_parameter(c)).collect();
+        let declaration = format!("pub fn {name}({}) -> {}", parameters?.join(", "), rust_type(&function.answer)?);
+        let spaceless: String = declaration.split_whitespace().collect();
+        // With or without a comma behind the last parameter.
+        let with_comma = spaceless.replace(")->", ",)->");
+        if !found.iter().any(|found| *found == spaceless || *found == with_comma) {
+            return Err(format!("raw.rs does not have {declaration}"));
+        }
+        wanted.push(name);
+    }
+    let declared = found.iter().filter(|declaration| !declaration.is_empty()).count();
+    if declared != wanted.len() || !after.trim().is_empty() {
+        return Err(format!("raw.rs declares {declared} functions, and {} are exported", wanted.len()));
+    }
+    Ok(wanted.len())
+}
+
 /// The rows' numbers, from 0 in the model's order, each name with the row's own at its start, and how many there are.
 fn row_numbers(header: &str) -> Result<(), String> {
     let mut names = header.lines().filter_map(|line| line.strip_prefix("#define YAM_ROW_"));
@@ -150,16 +200,26 @@ fn row_numbers(header: &str) -> Result<(), String> {
     }
 }
 
-/// Whether the headers are right, and each function is called from C and C++; says so.
+/// How many functions and places there are, where all declarations are right and each function is called from C and C++.
+fn checked() -> Result<(usize, usize), String> {
+    let functions = compare(SOURCE, HEADER)?;
+    compare_rust(SOURCE, RAW)?;
+    row_numbers(ROWS)?;
+    let places = places::as_they_are()?;
+    match exported(SOURCE)?.keys().find(|name| !EVERY_CALL.contains(&format!("{name}("))) {
+        Some(name) => Err(format!("every_call.c does not call {name}")),
+        None => Ok((functions, places)),
+    }
+}
+
+/// Whether the declarations are right; says so.
 pub fn report() -> bool {
-    let called = |name: &&String| !EVERY_CALL.contains(&format!("{name}("));
-    let result = compare(SOURCE, HEADER).and_then(|count| row_numbers(ROWS).map(|()| count)).and_then(|count| {
-        let functions = exported(SOURCE)?;
-        let left_out = functions.keys().find(called);
-        left_out.map_or(Ok(count), |name| Err(format!("every_call.c does not call {name}")))
-    });
+    let result = checked();
     match &result {
-        Ok(count) => println!("include/yam.h declares the {count} functions that yam_c exports, as it exports them"),
+        Ok((functions, places)) => {
+            println!("include/yam.h and the bindings for Rust declare the {functions} functions that yam_c exports, as it exports them;");
+            println!("include/yam.h names {places} words of records as yam_c reads them");
+        }
         Err(how) => println!("include/yam.h: {how}"),
     }
     result.is_ok()
@@ -230,6 +290,24 @@ mod tests {
             ("COUNT 131", "COUNT 130"),
         ] {
             assert!(ROWS.contains(old) && row_numbers(&ROWS.replacen(old, new, 1)).is_err(), "{old} as {new}");
+        }
+    }
+
+    #[test]
+    fn changed_bindings_are_found() {
+        assert_eq!(compare_rust(SOURCE, RAW), Ok(11));
+        for (old, new) in [
+            ("machine: *mut u32, machine_length: usize) -> u32;", "machine: *const u32, machine_length: usize) -> u32;"),
+            ("machine: *mut u32, machine_length: usize) -> u32;", "machine: *mut u32, machine_length: usize) -> u64;"),
+            ("machine: *mut u32, machine_length: usize) -> u32;", "machine: *mut u32) -> u32;"),
+            ("        budget: u64,\n", "        budget: u32,\n"),
+            ("        certificate: *const u8,\n", "        certificate: *const u32,\n"),
+            ("pub fn yam_store(", "pub fn yam_save("),
+            ("pub fn yam_store(", "pub fn yam_more();\n    pub fn yam_store("),
+            ("        text_length: usize,\n", "        text_length: u32,\n"),
+        ] {
+            assert!(RAW.contains(old), "{old}");
+            assert!(compare_rust(SOURCE, &RAW.replacen(old, new, 1)).is_err(), "{old} as {new}");
         }
     }
 
