@@ -166,6 +166,12 @@ static inline void yam_machine_to_words(const struct yam_machine *machine, uint3
     words[YAM_MACHINE_LOADED] = machine->loaded;
 }
 
+/* The number of two words. */
+static inline uint64_t yam_wide(uint32_t low, uint32_t high)
+{
+    return low | (uint64_t)high << 32;
+}
+
 static inline void yam_machine_from_words(struct yam_machine *machine, const uint32_t *words)
 {
     machine->pc = words[YAM_MACHINE_PC];
@@ -181,13 +187,14 @@ static inline void yam_machine_from_words(struct yam_machine *machine, const uin
     machine->mode = words[YAM_MACHINE_MODE];
     machine->posted = words[YAM_MACHINE_POSTED];
     machine->port = words[YAM_MACHINE_PORT];
-    machine->taken = words[YAM_MACHINE_TAKEN_LOW] | (uint64_t)words[YAM_MACHINE_TAKEN_HIGH] << 32;
-    machine->logged = words[YAM_MACHINE_LOGGED_LOW] | (uint64_t)words[YAM_MACHINE_LOGGED_HIGH] << 32;
+    machine->taken = yam_wide(words[YAM_MACHINE_TAKEN_LOW], words[YAM_MACHINE_TAKEN_HIGH]);
+    machine->logged = yam_wide(words[YAM_MACHINE_LOGGED_LOW], words[YAM_MACHINE_LOGGED_HIGH]);
     memcpy(machine->stack, words + YAM_MACHINE_STACK, sizeof machine->stack);
     machine->loaded = words[YAM_MACHINE_LOADED];
 }
 
-static inline void yam_instruction_to_words(const struct yam_instruction *instruction, uint32_t *words)
+static inline void yam_instruction_to_words(const struct yam_instruction *instruction,
+                                            uint32_t *words)
 {
     words[YAM_INSTRUCTION_ROW] = instruction->row;
     words[YAM_INSTRUCTION_FLAG] = instruction->flag;
@@ -197,7 +204,8 @@ static inline void yam_instruction_to_words(const struct yam_instruction *instru
     words[YAM_INSTRUCTION_VALUE] = instruction->value;
 }
 
-static inline void yam_instruction_from_words(struct yam_instruction *instruction, const uint32_t *words)
+static inline void yam_instruction_from_words(struct yam_instruction *instruction,
+                                              const uint32_t *words)
 {
     instruction->row = words[YAM_INSTRUCTION_ROW];
     instruction->flag = words[YAM_INSTRUCTION_FLAG];
@@ -215,7 +223,8 @@ static inline void yam_answer(uint64_t *wanted, uint64_t answer)
 }
 
 /* yam_read: on a refusal the instruction is left as it was. */
-static inline uint32_t yam_read_struct(const struct yam_config *config, uint32_t word, struct yam_instruction *instruction)
+static inline uint32_t yam_read_struct(const struct yam_config *config, uint32_t word,
+                                       struct yam_instruction *instruction)
 {
     uint32_t config_words[YAM_CONFIG_WORDS], words[YAM_INSTRUCTION_WORDS];
     uint32_t number;
@@ -227,7 +236,8 @@ static inline uint32_t yam_read_struct(const struct yam_config *config, uint32_t
 }
 
 /* yam_write: the word is 0 on a refusal. */
-static inline uint32_t yam_write_struct(const struct yam_config *config, const struct yam_instruction *instruction, uint32_t *word)
+static inline uint32_t yam_write_struct(const struct yam_config *config,
+                                        const struct yam_instruction *instruction, uint32_t *word)
 {
     uint32_t config_words[YAM_CONFIG_WORDS], words[YAM_INSTRUCTION_WORDS];
     uint64_t answer = 0;
@@ -251,7 +261,8 @@ static inline uint32_t yam_reset_struct(struct yam_machine *machine)
 }
 
 /* yam_step: on a refusal machine and lists are left as they were. */
-static inline uint32_t yam_step_struct(const struct yam_config *config, const struct yam_lists *lists, struct yam_machine *machine,
+static inline uint32_t yam_step_struct(const struct yam_config *config,
+                                       const struct yam_lists *lists, struct yam_machine *machine,
                                        uint64_t *cycles)
 {
     uint32_t config_words[YAM_CONFIG_WORDS], words[YAM_MACHINE_WORDS];
@@ -259,16 +270,19 @@ static inline uint32_t yam_step_struct(const struct yam_config *config, const st
     uint32_t number;
     yam_config_to_words(config, config_words);
     yam_machine_to_words(machine, words);
-    number = yam_step(config_words, YAM_CONFIG_WORDS, lists->image, lists->image_length, lists->inputs, lists->inputs_length, words,
-                      YAM_MACHINE_WORDS, lists->registers, lists->registers_length, lists->memory, lists->memory_length,
-                      lists->log_addresses, lists->log_addresses_length, lists->log_values, lists->log_values_length, &answer, 1);
+    number = yam_step(config_words, YAM_CONFIG_WORDS, lists->image, lists->image_length,
+                      lists->inputs, lists->inputs_length, words, YAM_MACHINE_WORDS,
+                      lists->registers, lists->registers_length, lists->memory,
+                      lists->memory_length, lists->log_addresses, lists->log_addresses_length,
+                      lists->log_values, lists->log_values_length, &answer, 1);
     yam_machine_from_words(machine, words);
     yam_answer(cycles, answer);
     return number;
 }
 
 /* yam_run: the steps done are kept, whatever ended the run. */
-static inline uint32_t yam_run_struct(const struct yam_config *config, const struct yam_lists *lists, struct yam_machine *machine,
+static inline uint32_t yam_run_struct(const struct yam_config *config,
+                                      const struct yam_lists *lists, struct yam_machine *machine,
                                       uint64_t budget, uint64_t *steps, uint64_t *cycles)
 {
     uint32_t config_words[YAM_CONFIG_WORDS], words[YAM_MACHINE_WORDS];
@@ -276,9 +290,11 @@ static inline uint32_t yam_run_struct(const struct yam_config *config, const str
     uint32_t number;
     yam_config_to_words(config, config_words);
     yam_machine_to_words(machine, words);
-    number = yam_run(config_words, YAM_CONFIG_WORDS, lists->image, lists->image_length, lists->inputs, lists->inputs_length, words,
-                     YAM_MACHINE_WORDS, lists->registers, lists->registers_length, lists->memory, lists->memory_length,
-                     lists->log_addresses, lists->log_addresses_length, lists->log_values, lists->log_values_length, budget, answers, 2);
+    number = yam_run(config_words, YAM_CONFIG_WORDS, lists->image, lists->image_length,
+                     lists->inputs, lists->inputs_length, words, YAM_MACHINE_WORDS,
+                     lists->registers, lists->registers_length, lists->memory, lists->memory_length,
+                     lists->log_addresses, lists->log_addresses_length, lists->log_values,
+                     lists->log_values_length, budget, answers, 2);
     yam_machine_from_words(machine, words);
     yam_answer(steps, answers[0]);
     yam_answer(cycles, answers[1]);
@@ -287,15 +303,17 @@ static inline uint32_t yam_run_struct(const struct yam_config *config, const str
 
 /* yam_check: the level on a pass, address and rule beside YAM_RULE_BROKEN; what is not answered is
    0. */
-static inline uint32_t yam_check_struct(const struct yam_config *config, const uint32_t *image, size_t image_length,
-                                        const uint8_t *certificate, size_t certificate_length, uint64_t *level, uint64_t *address,
-                                        uint64_t *rule)
+static inline uint32_t yam_check_struct(const struct yam_config *config, const uint32_t *image,
+                                        size_t image_length, const uint8_t *certificate,
+                                        size_t certificate_length, uint64_t *level,
+                                        uint64_t *address, uint64_t *rule)
 {
     uint32_t config_words[YAM_CONFIG_WORDS];
     uint64_t answers[2] = {0, 0};
     uint32_t number;
     yam_config_to_words(config, config_words);
-    number = yam_check(config_words, YAM_CONFIG_WORDS, image, image_length, certificate, certificate_length, answers, 2);
+    number = yam_check(config_words, YAM_CONFIG_WORDS, image, image_length, certificate,
+                       certificate_length, answers, 2);
     yam_answer(level, number == YAM_PASSES ? answers[0] : 0);
     yam_answer(address, number == YAM_RULE_BROKEN ? answers[0] : 0);
     yam_answer(rule, number == YAM_RULE_BROKEN ? answers[1] : 0);
@@ -315,47 +333,54 @@ static inline uint32_t yam_text_struct(const struct yam_config *config, uint32_t
 }
 
 /* yam_list: the place after the last whole line, and the address of the next one. */
-static inline uint32_t yam_list_struct(const struct yam_config *config, const uint32_t *image, size_t image_length, uint64_t first,
-                                       uint8_t *page, size_t page_length, uint64_t place, uint64_t *after, uint64_t *next)
+static inline uint32_t yam_list_struct(const struct yam_config *config, const uint32_t *image,
+                                       size_t image_length, uint64_t first, uint8_t *page,
+                                       size_t page_length, uint64_t place, uint64_t *after,
+                                       uint64_t *next)
 {
     uint32_t config_words[YAM_CONFIG_WORDS];
     uint64_t answers[2] = {0, 0};
     uint32_t number;
     yam_config_to_words(config, config_words);
-    number = yam_list(config_words, YAM_CONFIG_WORDS, image, image_length, first, page, page_length, place, answers, 2);
+    number = yam_list(config_words, YAM_CONFIG_WORDS, image, image_length, first, page, page_length,
+                      place, answers, 2);
     yam_answer(after, answers[0]);
     yam_answer(next, answers[1]);
     return number;
 }
 
 /* yam_assemble: how many words were written, and the line that is refused. */
-static inline uint32_t yam_assemble_struct(const struct yam_config *config, const char *text, size_t text_length, uint32_t *words,
-                                           size_t words_length, uint64_t *count, uint64_t *line)
+static inline uint32_t yam_assemble_struct(const struct yam_config *config, const char *text,
+                                           size_t text_length, uint32_t *words, size_t words_length,
+                                           uint64_t *count, uint64_t *line)
 {
     uint32_t config_words[YAM_CONFIG_WORDS];
     uint64_t answers[2] = {0, 0};
     uint32_t number;
     yam_config_to_words(config, config_words);
-    number = yam_assemble(config_words, YAM_CONFIG_WORDS, (const uint8_t *)text, text_length, words, words_length, answers, 2);
+    number = yam_assemble(config_words, YAM_CONFIG_WORDS, (const uint8_t *)text, text_length, words,
+                          words_length, answers, 2);
     yam_answer(count, answers[0]);
     yam_answer(line, answers[1]);
     return number;
 }
 
 /* yam_load: on a refusal configuration and image are left as they were. */
-static inline uint32_t yam_load_struct(const uint8_t *file, size_t file_length, struct yam_config *config, uint32_t *image,
+static inline uint32_t yam_load_struct(const uint8_t *file, size_t file_length,
+                                       struct yam_config *config, uint32_t *image,
                                        size_t image_length)
 {
     uint32_t words[YAM_CONFIG_WORDS];
-    const uint32_t number = yam_load(file, file_length, words, YAM_CONFIG_WORDS, image, image_length);
+    const uint32_t number =
+        yam_load(file, file_length, words, YAM_CONFIG_WORDS, image, image_length);
     if (number == YAM_PASSES)
         yam_config_from_words(config, words);
     return number;
 }
 
 /* yam_store: file has yam_file_length(IM_SIZE) bytes. */
-static inline uint32_t yam_store_struct(const struct yam_config *config, const uint32_t *image, size_t image_length, uint8_t *file,
-                                        size_t file_length)
+static inline uint32_t yam_store_struct(const struct yam_config *config, const uint32_t *image,
+                                        size_t image_length, uint8_t *file, size_t file_length)
 {
     uint32_t words[YAM_CONFIG_WORDS];
     yam_config_to_words(config, words);

@@ -1,4 +1,5 @@
-//! Links the proved library, target/staticlib/libyam_c.a of the repository or that of the folder which YAM_LIBRARY_DIR names.
+//! Links the proved library, target/staticlib/libyam_c.a of the repository or that of the folder
+//! which YAM_LIBRARY_DIR names.
 
 use std::path::PathBuf;
 

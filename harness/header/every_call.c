@@ -50,7 +50,7 @@ static void at_reset(void)
     memset(memory, 0, sizeof memory);
     same("reset", yam_reset(machine, YAM_MACHINE_WORDS), 0);
     for (i = 0; i < YAM_MACHINE_WORDS; i += 1)
-        same("a word at reset", machine[i], i == 8 || i == 9 ? 15 : 0);
+        same("a word at reset", machine[i], i == YAM_MACHINE_IMASK || i == YAM_MACHINE_SAVED ? 15 : 0);
     for (i = 2; i <= 4; i += 1)
         registers[i] = (uint32_t)(i + 5);
 }
@@ -73,9 +73,9 @@ static void words(void)
 static void after_eleven_steps(const char *what)
 {
     size_t i;
-    same(what, machine[0], 5);
-    same(what, machine[2], 5);
-    same(what, machine[80], 1);
+    same(what, machine[YAM_MACHINE_PC], 5);
+    same(what, machine[YAM_MACHINE_RX], 5);
+    same(what, machine[YAM_MACHINE_LOADED], 1);
     same(what, registers[6], 19);
     for (i = 0; i < MEMORY; i += 1)
         same(what, memory[i], i >= 16 && i <= 18 ? i - 9 : 0);
@@ -108,13 +108,13 @@ static void steps(void)
                  log_addresses, 2, log_values, 2, 1000001, answers, 2),
          16);
     at_reset();
-    machine[0] = 2;
+    machine[YAM_MACHINE_PC] = 2;
     same("MOVX from reset",
          yam_step(config, YAM_CONFIG_WORDS, image, WORDS, inputs, 0, machine, YAM_MACHINE_WORDS, registers, REGISTERS, memory, MEMORY,
                   log_addresses, 0, log_values, 0, answers, 1),
          27);
-    same("its mark", machine[80], 0);
-    machine[80] = 2;
+    same("its mark", machine[YAM_MACHINE_LOADED], 0);
+    machine[YAM_MACHINE_LOADED] = 2;
     same("a mark of 2",
          yam_step(config, YAM_CONFIG_WORDS, image, WORDS, inputs, 0, machine, YAM_MACHINE_WORDS, registers, REGISTERS, memory, MEMORY,
                   log_addresses, 0, log_values, 0, answers, 1),

@@ -1,5 +1,5 @@
-/* Loads an image file and runs it for STEPS steps from reset, with zeroed memories: a program of a user, compiled outside the tree with
-   what tools/install installed. */
+/* Loads an image file and runs it for STEPS steps from reset, with zeroed memories: a program of a
+   user, compiled outside the tree with what tools/install installed. */
 #include <stdio.h>
 #include <stdlib.h>
 #include <yam_structs.h>
@@ -38,8 +38,8 @@ int main(int count, char **arguments)
     lists.memory_length = config.dmsize;
     yam_reset_struct(&machine);
     number = yam_run_struct(&config, &lists, &machine, STEPS, &steps, &cycles);
-    printf("yam %s: ended %u, %u steps, %u cycles, PC %u\n", YAM_VERSION, (unsigned)number, (unsigned)steps, (unsigned)cycles,
-           (unsigned)machine.pc);
+    printf("yam %s: ended %u, %u steps, %u cycles, PC %u\n", YAM_VERSION, (unsigned)number,
+           (unsigned)steps, (unsigned)cycles, (unsigned)machine.pc);
     free(lists.registers);
     free(lists.memory);
     return number != YAM_PASSES;

@@ -1,5 +1,6 @@
-/* Calls every wrapper of include/yam_structs.h, and compares what it answers and leaves with the same call of include/yam.h on words.
-   The argument is examples/six_words.img. Exit status 1 on a difference. */
+/* Calls every wrapper of include/yam_structs.h, and compares what it answers and leaves with the
+   same call of include/yam.h on words. The argument is examples/six_words.img. Exit status 1 on a
+   difference. */
 #include "yam_structs.h"
 #include "yam_structs.h" /* a second time changes nothing */
 #include <stdio.h>
@@ -25,7 +26,8 @@ static void same(const char *what, uint64_t got, uint64_t wanted)
 {
     if (got != wanted) {
         wrong += 1;
-        printf("%s: %llx, and it should be %llx\n", what, (unsigned long long)got, (unsigned long long)wanted);
+        printf("%s: %llx, and it should be %llx\n", what, (unsigned long long)got,
+               (unsigned long long)wanted);
     }
 }
 
@@ -57,7 +59,8 @@ static void conversions(void)
     memset(back, MARK, sizeof back);
     yam_instruction_from_words(&i, words);
     yam_instruction_to_words(&i, back);
-    same_bytes("an instruction, there and back", back, words, YAM_INSTRUCTION_WORDS * sizeof *words);
+    same_bytes("an instruction, there and back", back, words,
+               YAM_INSTRUCTION_WORDS * sizeof *words);
     same("value", i.value, FIRST_VALUE + YAM_INSTRUCTION_WORDS - 1);
     memset(back, MARK, sizeof back);
     yam_machine_from_words(&m, words);
@@ -66,7 +69,8 @@ static void conversions(void)
     same("PC", m.pc, FIRST_VALUE);
     same("the inputs taken", m.taken, FIRST_VALUE + 13 + ((uint64_t)(FIRST_VALUE + 14) << 32));
     same("the log's places", m.logged, FIRST_VALUE + 15 + ((uint64_t)(FIRST_VALUE + 16) << 32));
-    same("the last address of the stack", m.stack[YAM_STACK_WORDS - 1], FIRST_VALUE + YAM_MACHINE_LOADED - 1);
+    same("the last address of the stack", m.stack[YAM_STACK_WORDS - 1],
+         FIRST_VALUE + YAM_MACHINE_LOADED - 1);
     same("loaded", m.loaded, FIRST_VALUE + YAM_MACHINE_LOADED);
 }
 
@@ -75,11 +79,13 @@ static void files(const char *name)
     uint8_t again[FILE_BYTES];
     struct yam_config kept;
     FILE *from = fopen(name, "rb");
-    same("the example", (uint64_t)(from != NULL && fread(file, 1, FILE_BYTES, from) == FILE_BYTES), 1);
+    same("the example", (uint64_t)(from != NULL && fread(file, 1, FILE_BYTES, from) == FILE_BYTES),
+         1);
     if (from != NULL)
         fclose(from);
     same("load", yam_load_struct(file, FILE_BYTES, &config, image, WORDS), YAM_PASSES);
-    same("load on words", yam_load(file, FILE_BYTES, config_words, YAM_CONFIG_WORDS, image, WORDS), YAM_PASSES);
+    same("load on words", yam_load(file, FILE_BYTES, config_words, YAM_CONFIG_WORDS, image, WORDS),
+         YAM_PASSES);
     same("IM_SIZE", config.imsize, WORDS);
     same("REG_WIDTH", config.regwidth, 32);
     same("RM_SIZE", config.rmsize, REGISTERS);
@@ -94,10 +100,12 @@ static void files(const char *name)
     same_bytes("the file", again, file, FILE_BYTES);
     kept = config;
     again[FILE_BYTES - 1] ^= 1;
-    same("load a wrong checksum", yam_load_struct(again, FILE_BYTES, &kept, image, WORDS), YAM_BLOCK_CHECK);
+    same("load a wrong checksum", yam_load_struct(again, FILE_BYTES, &kept, image, WORDS),
+         YAM_BLOCK_CHECK);
     same_bytes("its configuration", &kept, &config, sizeof config);
     kept.imsize = 0;
-    same("store an unlawful configuration", yam_store_struct(&kept, image, WORDS, again, FILE_BYTES), YAM_UNLAWFUL_CONFIG);
+    same("store an unlawful configuration",
+         yam_store_struct(&kept, image, WORDS, again, FILE_BYTES), YAM_UNLAWFUL_CONFIG);
 }
 
 static void words(void)
@@ -130,7 +138,8 @@ struct bench {
     uint32_t machine[YAM_MACHINE_WORDS], registers[REGISTERS], memory[MEMORY];
 };
 
-static void same_state(const char *what, const struct yam_machine *machine, const struct bench *got, const struct bench *wanted)
+static void same_state(const char *what, const struct yam_machine *machine, const struct bench *got,
+                       const struct bench *wanted)
 {
     uint32_t flat[YAM_MACHINE_WORDS];
     yam_machine_to_words(machine, flat);
@@ -141,14 +150,17 @@ static void same_state(const char *what, const struct yam_machine *machine, cons
 
 static uint32_t step_on_words(struct bench *b, uint64_t *cycles)
 {
-    return yam_step(config_words, YAM_CONFIG_WORDS, image, WORDS, NULL, 0, b->machine, YAM_MACHINE_WORDS, b->registers, REGISTERS, b->memory,
-                    MEMORY, NULL, 0, NULL, 0, cycles, 1);
+    return yam_step(config_words, YAM_CONFIG_WORDS, image, WORDS, NULL, 0, b->machine,
+                    YAM_MACHINE_WORDS, b->registers, REGISTERS, b->memory, MEMORY, NULL, 0, NULL, 0,
+                    cycles, 1);
 }
 
 static void steps(void)
 {
     static struct bench structs, flat;
-    struct yam_lists lists = {image, WORDS, NULL, 0, structs.registers, REGISTERS, structs.memory, MEMORY, NULL, 0, NULL, 0};
+    struct yam_lists lists = {
+        image, WORDS, NULL, 0, structs.registers, REGISTERS, structs.memory, MEMORY,
+        NULL,  0,     NULL, 0};
     struct yam_machine machine;
     uint64_t done = 0, cycles = 0, flat_cycles = 0, all = 0;
     int i;
@@ -183,54 +195,73 @@ static void steps(void)
     same("its steps", done, STEPS);
     same("its cycles", cycles, CYCLES);
     same_state("after a run", &machine, &structs, &flat);
-    same("a budget above the limit", yam_run_struct(&config, &lists, &machine, 1000001, NULL, NULL), YAM_BUDGET);
+    same("a budget above the limit", yam_run_struct(&config, &lists, &machine, 1000001, NULL, NULL),
+         YAM_BUDGET);
     lists.log_values_length = 1;
     lists.log_values = structs.memory;
-    same("a log of unlike lists", yam_step_struct(&config, &lists, &machine, NULL), YAM_WRONG_LENGTH);
+    same("a log of unlike lists", yam_step_struct(&config, &lists, &machine, NULL),
+         YAM_WRONG_LENGTH);
 }
 
 static void verdicts(void)
 {
     static const uint8_t used[WORDS] = {0}, unused[WORDS] = {0, 0, 0, 255, 0, 0};
     uint64_t level = MARK, address = MARK, rule = MARK;
-    same("check", yam_check_struct(&config, image, WORDS, used, WORDS, &level, &address, &rule), YAM_PASSES);
+    same("check", yam_check_struct(&config, image, WORDS, used, WORDS, &level, &address, &rule),
+         YAM_PASSES);
     same("level, address, rule", level | address | rule, 0);
-    same("check, 3 unused", yam_check_struct(&config, image, WORDS, unused, WORDS, &level, &address, &rule), YAM_RULE_BROKEN);
+    same("check, 3 unused",
+         yam_check_struct(&config, image, WORDS, unused, WORDS, &level, &address, &rule),
+         YAM_RULE_BROKEN);
     same("the level", level, 0);
     same("the address", address, 2);
     same("the rule", rule, 4);
-    same("check, too short", yam_check_struct(&config, image, WORDS, used, WORDS - 1, NULL, NULL, NULL), YAM_WRONG_LENGTH);
+    same("check, too short",
+         yam_check_struct(&config, image, WORDS, used, WORDS - 1, NULL, NULL, NULL),
+         YAM_WRONG_LENGTH);
 }
 
 static void texts(void)
 {
-    static const char source[] = "MOV %06,#0010\nLDYX %04,%02\nloop: MOVX @%06,@%X+,S\nADD %06,#0001\nJMP loop,NZ\nhalt: JMP halt\n";
+    static const char source[] = "MOV %06,#0010\nLDYX %04,%02\nloop: MOVX @%06,@%X+,S\nADD "
+                                 "%06,#0001\nJMP loop,NZ\nhalt: JMP halt\n";
     static const char bad[] = "RET\nWRONG";
     uint8_t page[PAGE_BYTES], wanted[PAGE_BYTES];
     uint32_t made[WORDS];
     uint64_t after = 0, next = 0, count = 0, line = 0, answers[2];
     memset(page, MARK, sizeof page);
     memset(wanted, MARK, sizeof wanted);
-    same("list", yam_list_struct(&config, image, WORDS, 0, page, PAGE_BYTES, 0, &after, &next), YAM_PASSES);
-    same("list on words", yam_list(config_words, YAM_CONFIG_WORDS, image, WORDS, 0, wanted, PAGE_BYTES, 0, answers, 2), YAM_PASSES);
+    same("list", yam_list_struct(&config, image, WORDS, 0, page, PAGE_BYTES, 0, &after, &next),
+         YAM_PASSES);
+    same("list on words",
+         yam_list(config_words, YAM_CONFIG_WORDS, image, WORDS, 0, wanted, PAGE_BYTES, 0, answers,
+                  2),
+         YAM_PASSES);
     same("the place", after, answers[0]);
     same("the next address", next, WORDS);
     same_bytes("the lines", page, wanted, sizeof page);
-    same("list on a small page", yam_list_struct(&config, image, WORDS, 5, page, 20, 0, NULL, &next), YAM_PAGE_FULL);
+    same("list on a small page",
+         yam_list_struct(&config, image, WORDS, 5, page, 20, 0, NULL, &next), YAM_PAGE_FULL);
     same("its next address", next, 5);
-    same("assemble", yam_assemble_struct(&config, source, sizeof source - 1, made, WORDS, &count, &line), YAM_PASSES);
+    same("assemble",
+         yam_assemble_struct(&config, source, sizeof source - 1, made, WORDS, &count, &line),
+         YAM_PASSES);
     same("how many words", count, WORDS);
     same_bytes("the words", made, image, sizeof made);
-    same("assemble RET, WRONG", yam_assemble_struct(&config, bad, sizeof bad - 1, made, WORDS, NULL, &line), YAM_LINE_FORM);
+    same("assemble RET, WRONG",
+         yam_assemble_struct(&config, bad, sizeof bad - 1, made, WORDS, NULL, &line),
+         YAM_LINE_FORM);
     same("its line", line, 2);
 }
 
 /* A number's meaning, also of one that is none. */
 static void meanings(void)
 {
-    same("the meaning of 16", (uint64_t)strcmp(yam_meaning(YAM_BUDGET), "A budget above 1,000,000"), 0);
+    same("the meaning of 16", (uint64_t)strcmp(yam_meaning(YAM_BUDGET), "A budget above 1,000,000"),
+         0);
     same("the meaning of 0", (uint64_t)strcmp(yam_meaning(YAM_PASSES), "Passes"), 0);
-    same("the meaning of none", (uint64_t)strcmp(yam_meaning(UINT32_MAX), yam_meaning(YAM_SOURCE_TOO_LONG + 1)), 0);
+    same("the meaning of none",
+         (uint64_t)strcmp(yam_meaning(UINT32_MAX), yam_meaning(YAM_SOURCE_TOO_LONG + 1)), 0);
 }
 
 int main(int count, char **arguments)

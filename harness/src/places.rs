@@ -1,5 +1,5 @@
-//! Whether the enums of include/yam.h name the places at which crates/yam_c/src/flat.rt reads the words of a record, and
-//! include/yam_structs.h copies each word from and to the field of its name.
+//! Whether the enums of include/yam.h name the places at which crates/yam_c/src/flat.rt reads the
+//! words of a record, and include/yam_structs.h copies each word from and to the field of its name.
 
 use crate::signatures::{defined, without_comments};
 
@@ -7,7 +7,8 @@ const SOURCE: &str = include_str!("../../crates/yam_c/src/flat.rt");
 const HEADER: &str = include_str!("../../include/yam.h");
 const STRUCTS: &str = include_str!("../../include/yam_structs.h");
 
-/// A record: the function that reads it, its enum and the prefix of its names, and what a wrapper for structs calls it.
+/// A record: the function that reads it, its enum and the prefix of its names, and what a wrapper
+/// for structs calls it.
 struct Kind {
     function: &'static str,
     prefix: &'static str,
@@ -69,7 +70,8 @@ fn named(header: &str, prefix: &str) -> Result<Places, String> {
         .collect()
 }
 
-/// The wrappers copy a word of this name both ways. A count of two words, the stack and the zeros behind it are not of this form.
+/// The wrappers copy a word of this name both ways. A count of two words, the stack and the zeros
+/// behind it are not of this form.
 fn is_copied(structs: &str, kind: &Kind, name: &str) -> bool {
     let (Kind { prefix, variable, .. }, field) = (kind, plain(name));
     structs.contains(&format!("words[{prefix}{name}] = {variable}->{field};"))

@@ -1,5 +1,6 @@
-//! The calls on slices. Each is given pointers and lengths of whole slices, lent for the time of the call, and a slice that it may write
-//! is lent to it alone: what include/yam.h asks for. It answers the documents' number.
+//! The calls on slices. Each is given pointers and lengths of whole slices, lent for the time of
+//! the call, and a slice that it may write is lent to it alone: what include/yam.h asks for. It
+//! answers the documents' number.
 
 use crate::raw;
 
@@ -16,7 +17,15 @@ pub(crate) struct State<'a> {
 }
 
 pub(crate) fn read(config: &[u32], word: u32, instruction: &mut [u32]) -> u32 {
-    unsafe { raw::yam_read(config.as_ptr(), config.len(), word, instruction.as_mut_ptr(), instruction.len()) }
+    unsafe {
+        raw::yam_read(
+            config.as_ptr(),
+            config.len(),
+            word,
+            instruction.as_mut_ptr(),
+            instruction.len(),
+        )
+    }
 }
 
 pub(crate) fn write(config: &[u32], instruction: &[u32], answers: &mut Answers) -> u32 {
@@ -36,7 +45,13 @@ pub(crate) fn reset(machine: &mut [u32]) -> u32 {
     unsafe { raw::yam_reset(machine.as_mut_ptr(), machine.len()) }
 }
 
-pub(crate) fn step(config: &[u32], image: &[u32], inputs: &[u32], state: State, answers: &mut Answers) -> u32 {
+pub(crate) fn step(
+    config: &[u32],
+    image: &[u32],
+    inputs: &[u32],
+    state: State,
+    answers: &mut Answers,
+) -> u32 {
     unsafe {
         raw::yam_step(
             config.as_ptr(),
@@ -61,7 +76,14 @@ pub(crate) fn step(config: &[u32], image: &[u32], inputs: &[u32], state: State, 
     }
 }
 
-pub(crate) fn run(config: &[u32], image: &[u32], inputs: &[u32], state: State, budget: u64, answers: &mut Answers) -> u32 {
+pub(crate) fn run(
+    config: &[u32],
+    image: &[u32],
+    inputs: &[u32],
+    state: State,
+    budget: u64,
+    answers: &mut Answers,
+) -> u32 {
     unsafe {
         raw::yam_run(
             config.as_ptr(),
@@ -87,7 +109,12 @@ pub(crate) fn run(config: &[u32], image: &[u32], inputs: &[u32], state: State, b
     }
 }
 
-pub(crate) fn check(config: &[u32], image: &[u32], certificate: &[u8], answers: &mut Answers) -> u32 {
+pub(crate) fn check(
+    config: &[u32],
+    image: &[u32],
+    certificate: &[u8],
+    answers: &mut Answers,
+) -> u32 {
     unsafe {
         raw::yam_check(
             config.as_ptr(),
@@ -102,7 +129,13 @@ pub(crate) fn check(config: &[u32], image: &[u32], certificate: &[u8], answers: 
     }
 }
 
-pub(crate) fn text(config: &[u32], word: u32, page: &mut [u8], place: u64, answers: &mut Answers) -> u32 {
+pub(crate) fn text(
+    config: &[u32],
+    word: u32,
+    page: &mut [u8],
+    place: u64,
+    answers: &mut Answers,
+) -> u32 {
     unsafe {
         raw::yam_text(
             config.as_ptr(),
@@ -117,7 +150,14 @@ pub(crate) fn text(config: &[u32], word: u32, page: &mut [u8], place: u64, answe
     }
 }
 
-pub(crate) fn list(config: &[u32], image: &[u32], first: u64, page: &mut [u8], place: u64, answers: &mut Answers) -> u32 {
+pub(crate) fn list(
+    config: &[u32],
+    image: &[u32],
+    first: u64,
+    page: &mut [u8],
+    place: u64,
+    answers: &mut Answers,
+) -> u32 {
     unsafe {
         raw::yam_list(
             config.as_ptr(),
@@ -134,7 +174,12 @@ pub(crate) fn list(config: &[u32], image: &[u32], first: u64, page: &mut [u8], p
     }
 }
 
-pub(crate) fn assemble(config: &[u32], text: &[u8], words: &mut [u32], answers: &mut Answers) -> u32 {
+pub(crate) fn assemble(
+    config: &[u32],
+    text: &[u8],
+    words: &mut [u32],
+    answers: &mut Answers,
+) -> u32 {
     unsafe {
         raw::yam_assemble(
             config.as_ptr(),
@@ -150,9 +195,27 @@ pub(crate) fn assemble(config: &[u32], text: &[u8], words: &mut [u32], answers: 
 }
 
 pub(crate) fn load(file: &[u8], config: &mut [u32], image: &mut [u32]) -> u32 {
-    unsafe { raw::yam_load(file.as_ptr(), file.len(), config.as_mut_ptr(), config.len(), image.as_mut_ptr(), image.len()) }
+    unsafe {
+        raw::yam_load(
+            file.as_ptr(),
+            file.len(),
+            config.as_mut_ptr(),
+            config.len(),
+            image.as_mut_ptr(),
+            image.len(),
+        )
+    }
 }
 
 pub(crate) fn store(config: &[u32], image: &[u32], file: &mut [u8]) -> u32 {
-    unsafe { raw::yam_store(config.as_ptr(), config.len(), image.as_ptr(), image.len(), file.as_mut_ptr(), file.len()) }
+    unsafe {
+        raw::yam_store(
+            config.as_ptr(),
+            config.len(),
+            image.as_ptr(),
+            image.len(),
+            file.as_mut_ptr(),
+            file.len(),
+        )
+    }
 }

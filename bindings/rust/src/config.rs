@@ -1,4 +1,5 @@
-//! The configuration of a core, and what needs nothing else: reading, writing and printing a word, assembling a source.
+//! The configuration of a core, and what needs nothing else: reading, writing and printing a word,
+//! assembling a source.
 
 use crate::calls;
 use crate::instruction::Instruction;
@@ -8,7 +9,8 @@ use crate::{CONFIG_WORDS, INSTRUCTION_WORDS, MOST_WORDS};
 /// The longest text of an instruction, in bytes.
 pub(crate) const TEXT_BYTES: usize = 20;
 
-/// The manual's generics, in small letters. Any numbers may be given: a call refuses a configuration that breaks document 01's rules.
+/// The manual's generics, in small letters. Any numbers may be given: a call refuses a
+/// configuration that breaks document 01's rules.
 #[derive(Clone, Copy, Debug, PartialEq, Eq, Hash)]
 pub struct Config {
     pub im_size: u32,
@@ -133,7 +135,8 @@ impl Config {
         Ok(printed(&page, answers[0]))
     }
 
-    /// The words of a source text (document 02, K1), at most IM_SIZE. A refusal of a line says which.
+    /// The words of a source text (document 02, K1), at most IM_SIZE. A refusal of a line says
+    /// which.
     pub fn assemble(&self, source: impl AsRef<[u8]>) -> Result<Vec<u32>, Refused> {
         let mut words = vec![0; self.words_lent()];
         let mut answers = [0; 2];
@@ -144,10 +147,13 @@ impl Config {
         Ok(words)
     }
 
-    /// Whether the configuration is lawful and the image has IM_SIZE words, else 1 or 2: what a listing that starts behind the last word
-    /// answers.
+    /// Whether the configuration is lawful and the image has IM_SIZE words, else 1 or 2: what a
+    /// listing that starts behind the last word answers.
     pub(crate) fn takes(&self, image: &[u32]) -> Result<(), Refused> {
-        passed(calls::list(&self.to_words(), image, image.len() as u64, &mut [], 0, &mut [0; 2]), None)
+        passed(
+            calls::list(&self.to_words(), image, image.len() as u64, &mut [], 0, &mut [0; 2]),
+            None,
+        )
     }
 
     /// IM_SIZE, but no more than a lawful configuration has: 1 refuses the others.

@@ -1,4 +1,5 @@
-//! An image: a configuration and the words of the instruction memory, with its file, listing and check.
+//! An image: a configuration and the words of the instruction memory, with its file, listing and
+//! check.
 
 use crate::calls;
 use crate::config::{printed, Config, TEXT_BYTES};
@@ -6,7 +7,8 @@ use crate::refusals::Refusal;
 use crate::refused::{passed, Place, Refused};
 use crate::{CONFIG_WORDS, MOST_WORDS};
 
-/// An image file has blocks of so many bytes: the first has the configuration, each other one so many words.
+/// An image file has blocks of so many bytes: the first has the configuration, each other one so
+/// many words.
 const BLOCK_BYTES: usize = 512;
 const BLOCK_WORDS: usize = 126;
 /// A line of a listing: address, word, text, with a space or a newline behind each.
@@ -23,7 +25,8 @@ impl Image {
     /// The image of an image file's bytes.
     pub fn load(file: &[u8]) -> Result<Image, Refused> {
         let mut config = [0; CONFIG_WORDS];
-        let mut words = vec![0; (file.len() / BLOCK_BYTES).saturating_mul(BLOCK_WORDS).min(MOST_WORDS)];
+        let mut words =
+            vec![0; (file.len() / BLOCK_BYTES).saturating_mul(BLOCK_WORDS).min(MOST_WORDS)];
         passed(calls::load(file, &mut config, &mut words), None)?;
         let config = Config::from_words(&config);
         words.truncate(config.words_lent());
@@ -50,11 +53,15 @@ impl Image {
         self.config.takes(&self.words)?;
         let mut page = vec![0; LINE_BYTES * self.config.words_lent()];
         let mut answers = [0; 2];
-        passed(calls::list(&self.config.to_words(), &self.words, 0, &mut page, 0, &mut answers), None)?;
+        passed(
+            calls::list(&self.config.to_words(), &self.words, 0, &mut page, 0, &mut answers),
+            None,
+        )?;
         Ok(printed(&page, answers[0]))
     }
 
-    /// The level at address 0, where the image passes with this certificate, a byte an address; a broken rule says where.
+    /// The level at address 0, where the image passes with this certificate, a byte an address; a
+    /// broken rule says where.
     pub fn check(&self, certificate: &[u8]) -> Result<u64, Refused> {
         let mut answers = [0; 2];
         let number = calls::check(&self.config.to_words(), &self.words, certificate, &mut answers);

@@ -2,7 +2,8 @@
 
 use crate::INSTRUCTION_WORDS;
 
-/// Parts are named by their place in the word; one that the row does not use is 0. [`crate::Config::write`] refuses what has no word.
+/// Parts are named by their place in the word; one that the row does not use is 0.
+/// [`crate::Config::write`] refuses what has no word.
 #[derive(Clone, Copy, Debug, Default, PartialEq, Eq, Hash)]
 pub struct Instruction {
     /// The row of the manual's tables, by its number in include/yam_rows.h.

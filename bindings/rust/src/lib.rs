@@ -1,5 +1,5 @@
-//! The YAM core model in Rust, over the proved library's C interface (include/yam.h). The documents' numbers of refusal are errors
-//! ([`Refused`]); no call panics, whatever it is given.
+//! The YAM core model in Rust, over the proved library's C interface (include/yam.h). The
+//! documents' numbers of refusal are errors ([`Refused`]); no call panics, whatever it is given.
 //!
 //! ```
 //! # fn main() -> Result<(), yam::Refused> {

@@ -18,7 +18,8 @@ pub struct Ran {
     pub cycles: u64,
 }
 
-/// A machine and all that it works on. The library works on these lists themselves: a step copies nothing.
+/// A machine and all that it works on. The library works on these lists themselves: a step copies
+/// nothing.
 #[derive(Clone, Debug, PartialEq, Eq)]
 pub struct Machine {
     image: Image,
@@ -32,7 +33,8 @@ pub struct Machine {
 }
 
 impl Machine {
-    /// The image's machine at reset, with zeroed memories, no inputs and a log of 256 places. Refused by 1 and 2.
+    /// The image's machine at reset, with zeroed memories, no inputs and a log of 256 places.
+    /// Refused by 1 and 2.
     pub fn new(image: &Image) -> Result<Machine, Refused> {
         let config = image.config;
         config.takes(&image.words)?;
@@ -59,7 +61,11 @@ impl Machine {
     }
 
     /// The same with these two lists as its log. A step refuses lists of unlike length by 2.
-    pub fn with_log(mut self, addresses: impl Into<Vec<u32>>, values: impl Into<Vec<u32>>) -> Machine {
+    pub fn with_log(
+        mut self,
+        addresses: impl Into<Vec<u32>>,
+        values: impl Into<Vec<u32>>,
+    ) -> Machine {
         self.log_addresses = addresses.into();
         self.log_values = values.into();
         self
@@ -126,7 +132,10 @@ impl Machine {
             log_addresses: &mut self.log_addresses,
             log_values: &mut self.log_values,
         };
-        passed(calls::step(&self.config, &self.image.words, &self.inputs, state, &mut answers), None)?;
+        passed(
+            calls::step(&self.config, &self.image.words, &self.inputs, state, &mut answers),
+            None,
+        )?;
         Ok(answers[0])
     }
 
@@ -140,13 +149,15 @@ impl Machine {
             log_addresses: &mut self.log_addresses,
             log_values: &mut self.log_values,
         };
-        let number = calls::run(&self.config, &self.image.words, &self.inputs, state, steps, &mut answers);
+        let number =
+            calls::run(&self.config, &self.image.words, &self.inputs, state, steps, &mut answers);
         let [steps, cycles] = answers;
         passed(number, Some(Place::Run { steps, cycles }))?;
         Ok(Ran { steps, cycles })
     }
 
-    /// So many steps one by one, each carried out when the iterator is asked for it. A refusal is its last item.
+    /// So many steps one by one, each carried out when the iterator is asked for it. A refusal is
+    /// its last item.
     pub fn trace(&mut self, steps: u64) -> Trace<'_> {
         Trace::new(self, steps)
     }

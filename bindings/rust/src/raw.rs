@@ -1,8 +1,13 @@
 //! The C functions, as include/yam.h declares them. Everything else in this crate is safe.
 
 extern "C" {
-    pub fn yam_read(config: *const u32, config_length: usize, word: u32, instruction: *mut u32, instruction_length: usize)
-        -> u32;
+    pub fn yam_read(
+        config: *const u32,
+        config_length: usize,
+        word: u32,
+        instruction: *mut u32,
+        instruction_length: usize,
+    ) -> u32;
     pub fn yam_write(
         config: *const u32,
         config_length: usize,

@@ -6,7 +6,8 @@ use crate::{MACHINE_WORDS, STACK_WORDS};
 const CORE_WORDS: usize = 17;
 const WORD_BITS: u32 = 32;
 
-/// The machine record by the manual's names. Any values may be given: a step refuses a record outside its ranges by 3.
+/// The machine record by the manual's names. Any values may be given: a step refuses a record
+/// outside its ranges by 3.
 #[derive(Clone, Copy, Debug, PartialEq, Eq, Hash)]
 pub struct Record {
     pub pc: u32,
@@ -70,37 +71,36 @@ impl Record {
             high(self.logged),
         ];
         let mut words = [0; MACHINE_WORDS];
-        for (word, value) in words.iter_mut().zip(core.iter().chain(&self.stack).chain([&self.loaded])) {
+        for (word, value) in
+            words.iter_mut().zip(core.iter().chain(&self.stack).chain([&self.loaded]))
+        {
             *word = *value;
         }
         words
     }
 
     pub fn from_words(words: &[u32; MACHINE_WORDS]) -> Record {
-        let mut stack = [0; STACK_WORDS];
-        for (cell, word) in stack.iter_mut().zip(words.iter().skip(CORE_WORDS)) {
-            *cell = *word;
-        }
-        let [pc, wp, rx, ry, n, z, spr7, depth, imask, saved, mode, posted, port, taken, taken_high, logged, logged_high, ..] =
-            *words;
+        let mut words = words.iter();
+        let mut next = || words.next().copied().unwrap_or_default();
+        // In the order in which they are written here; words of a count in that of its parameters.
         Record {
-            pc,
-            wp,
-            rx,
-            ry,
-            n,
-            z,
-            spr7,
-            depth,
-            imask,
-            saved,
-            mode,
-            posted,
-            port,
-            taken: wide(taken, taken_high),
-            logged: wide(logged, logged_high),
-            stack,
-            loaded: words[CORE_WORDS + STACK_WORDS],
+            pc: next(),
+            wp: next(),
+            rx: next(),
+            ry: next(),
+            n: next(),
+            z: next(),
+            spr7: next(),
+            depth: next(),
+            imask: next(),
+            saved: next(),
+            mode: next(),
+            posted: next(),
+            port: next(),
+            taken: wide(next(), next()),
+            logged: wide(next(), next()),
+            stack: std::array::from_fn(|_| next()),
+            loaded: next(),
         }
     }
 

@@ -133,6 +133,7 @@ impl Refusal {
     }
 
     /// What it means, in words.
+    #[rustfmt::skip]
     pub const fn meaning(self) -> &'static str {
         match self {
             Refusal::UnlawfulConfig => "The configuration breaks document 01's rules",

@@ -39,7 +39,9 @@ impl fmt::Display for Refused {
         match self.place {
             Some(Place::Rule { address, rule }) => write!(f, " address {address:06x} rule {rule}")?,
             Some(Place::Line(line)) => write!(f, " line {line}")?,
-            Some(Place::Run { steps, cycles }) => write!(f, " after {steps} steps, {cycles} cycles")?,
+            Some(Place::Run { steps, cycles }) => {
+                write!(f, " after {steps} steps, {cycles} cycles")?
+            }
             None => {}
         }
         write!(f, ": {}", self.meaning())

@@ -6,7 +6,8 @@ use crate::refused::{Place, Refused};
 use crate::MOST_STEPS;
 use std::fmt;
 
-/// Hex digits of an address of the image, a place in data memory, a register's place in one bank and where there are more.
+/// Hex digits of an address of the image, a place in data memory, a register's place in one bank
+/// and where there are more.
 const ADDRESS_DIGITS: usize = 6;
 const CELL_DIGITS: usize = 4;
 const REGISTER_DIGITS: usize = 2;
@@ -92,25 +93,32 @@ impl fmt::Display for Step {
         let digits = self.word_digits;
         for change in &self.changes {
             match change {
-                Change::Record { name, value } => match FIELDS.iter().find(|field| field.0 == *name) {
-                    Some((_, Digits::Hex(count), _)) => write!(f, " {name}={value:0count$x}")?,
-                    Some((_, Digits::Word, _)) => write!(f, " {name}={value:0digits$x}")?,
-                    Some((_, Digits::Decimal, _)) | None => write!(f, " {name}={value}")?,
-                },
+                Change::Record { name, value } => {
+                    match FIELDS.iter().find(|field| field.0 == *name) {
+                        Some((_, Digits::Hex(count), _)) => write!(f, " {name}={value:0count$x}")?,
+                        Some((_, Digits::Word, _)) => write!(f, " {name}={value:0digits$x}")?,
+                        Some((_, Digits::Decimal, _)) | None => write!(f, " {name}={value}")?,
+                    }
+                }
                 Change::Stack(address) => write!(f, " stack={address:0ADDRESS_DIGITS$x}")?,
                 Change::Register { place, value } => {
                     let places = self.register_digits;
                     write!(f, " %{place:0places$x}={value:0digits$x}")?;
                 }
-                Change::Memory { place, value } => write!(f, " &{place:0CELL_DIGITS$x}={value:0digits$x}")?,
-                Change::Log { address, value } => write!(f, " log={address:0digits$x}:{value:0digits$x}")?,
+                Change::Memory { place, value } => {
+                    write!(f, " &{place:0CELL_DIGITS$x}={value:0digits$x}")?
+                }
+                Change::Log { address, value } => {
+                    write!(f, " log={address:0digits$x}:{value:0digits$x}")?
+                }
             }
         }
         Ok(())
     }
 }
 
-/// The places at which two lists differ, with their new values; the old list is made like the new one.
+/// The places at which two lists differ, with their new values; the old list is made like the new
+/// one.
 fn differing(old: &mut [u32], new: &[u32]) -> Vec<(usize, u32)> {
     if old == new {
         return Vec::new();
@@ -148,16 +156,23 @@ impl<'a> Trace<'a> {
     fn changes(&mut self, before: &Record) -> Vec<Change> {
         let after = self.machine.record();
         let named = FIELDS.iter().filter(|(_, _, value)| value(before) != value(&after));
-        let mut changes: Vec<Change> = named.map(|(name, _, value)| Change::Record { name, value: value(&after) }).collect();
+        let mut changes: Vec<Change> =
+            named.map(|(name, _, value)| Change::Record { name, value: value(&after) }).collect();
         if after.depth > before.depth {
             changes.extend(after.returns().last().map(|address| Change::Stack(*address)));
         }
         let registers = differing(&mut self.registers, self.machine.registers());
-        changes.extend(registers.into_iter().map(|(place, value)| Change::Register { place, value }));
+        changes
+            .extend(registers.into_iter().map(|(place, value)| Change::Register { place, value }));
         let memory = differing(&mut self.memory, self.machine.memory());
         changes.extend(memory.into_iter().map(|(place, value)| Change::Memory { place, value }));
         if after.logged > before.logged {
-            changes.extend(self.machine.log().next_back().map(|(address, value)| Change::Log { address, value }));
+            changes.extend(
+                self.machine
+                    .log()
+                    .next_back()
+                    .map(|(address, value)| Change::Log { address, value }),
+            );
         }
         changes
     }
@@ -166,10 +181,15 @@ impl<'a> Trace<'a> {
     fn step(&mut self) -> Result<Step, Refused> {
         let before = self.machine.record();
         let place = Place::Run { steps: self.steps, cycles: self.cycles };
-        self.cycles += self.machine.step().map_err(|refused| Refused { place: Some(place), ..refused })?;
+        self.cycles +=
+            self.machine.step().map_err(|refused| Refused { place: Some(place), ..refused })?;
         self.steps += 1;
         // A step that was carried out had a word, and the word a text.
-        let word = usize::try_from(before.pc).ok().and_then(|pc| self.machine.image().words.get(pc)).copied().unwrap_or(0);
+        let word = usize::try_from(before.pc)
+            .ok()
+            .and_then(|pc| self.machine.image().words.get(pc))
+            .copied()
+            .unwrap_or(0);
         let config = *self.machine.config();
         let one_bank = config.rm_size == config.reg_size;
         Ok(Step {

@@ -3,7 +3,8 @@
 use yam::{Change, Config, Image, Instruction, Machine, Place, Ran, Refusal, Refused};
 
 const FILE: &[u8] = include_bytes!("../../../examples/six_words.img");
-const WORDS: [u32; 6] = [0xa286_0010, 0x9c04_1402, 0x9806_1800, 0x4686_0001, 0xc100_0002, 0xc000_0005];
+const WORDS: [u32; 6] =
+    [0xa286_0010, 0x9c04_1402, 0x9806_1800, 0x4686_0001, 0xc100_0002, 0xc000_0005];
 const LISTED: &str = "\
 000000 a2860010 MOV %06,#0010
 000001 9c041402 LDYX %04,%02
@@ -12,7 +13,16 @@ const LISTED: &str = "\
 000004 c1000002 JMP 000002,NZ
 000005 c0000005 JMP 000005
 ";
-const SOURCE: &str = "MOV %06,#0010\nLDYX %04,%02\nloop:\nMOVX @%06,@%X+,S\nADD %06,#0001\nJMP loop,NZ\n\nhalt: JMP halt\n";
+const SOURCE: &str = "\
+MOV %06,#0010
+LDYX %04,%02
+loop:
+MOVX @%06,@%X+,S
+ADD %06,#0001
+JMP loop,NZ
+
+halt: JMP halt
+";
 
 fn six_words() -> Image {
     Image::load(FILE).expect("the example is an image file")
@@ -48,7 +58,8 @@ fn refused<T: std::fmt::Debug>(answer: Result<T, Refused>) -> (Refusal, Option<P
 fn the_file_is_loaded_and_stored() {
     let image = six_words();
     assert_eq!(image.words, WORDS);
-    let wanted = Config { im_size: 6, reg_size: 16, rm_size: 16, alu_level: 2, ..Config::default() };
+    let wanted =
+        Config { im_size: 6, reg_size: 16, rm_size: 16, alu_level: 2, ..Config::default() };
     assert_eq!(image.config, wanted);
     assert_eq!(image.store().as_deref(), Ok(FILE));
     assert_eq!(Config::from_words(&wanted.to_words()), wanted);
@@ -62,7 +73,10 @@ fn the_words_are_listed_and_assembled() {
     assert_eq!(image.config.assemble(SOURCE.as_bytes()), Ok(WORDS.to_vec()));
     assert_eq!(Image::assemble(&image.config, SOURCE), Ok(image.clone()));
     let longer = Config { im_size: 8, ..image.config };
-    assert_eq!(Image::assemble(&longer, SOURCE).map(|image| image.words), Ok([&WORDS[..], &[0, 0]].concat()));
+    assert_eq!(
+        Image::assemble(&longer, SOURCE).map(|image| image.words),
+        Ok([&WORDS[..], &[0, 0]].concat())
+    );
     assert_eq!(image.config.text(WORDS[2]).as_deref(), Ok("MOVX @%06,@%X+,S"));
 }
 
@@ -100,7 +114,10 @@ fn eleven_steps_are_run_stepped_and_traced() {
     // docs/commands.md
     assert_eq!(steps[0].to_string(), "1 2 000000 a2860010 MOV %06,#0010 ; %06=00000010");
     assert_eq!(steps[1].to_string(), "2 4 000001 9c041402 LDYX %04,%02 ; RX=02 RY=04 loaded=1");
-    assert_eq!(steps[2].changes, [Change::Record { name: "RX", value: 3 }, Change::Memory { place: 16, value: 7 }]);
+    assert_eq!(
+        steps[2].changes,
+        [Change::Record { name: "RX", value: 3 }, Change::Memory { place: 16, value: 7 }]
+    );
     assert_eq!(steps[2].to_string(), "3 6 000002 98061800 MOVX @%06,@%X+,S ; RX=03 &0010=00000007");
 }
 
@@ -108,13 +125,17 @@ fn eleven_steps_are_run_stepped_and_traced() {
 fn the_certificate_is_checked() {
     let image = six_words();
     assert_eq!(image.check(&[0; 6]), Ok(0));
-    assert_eq!(refused(image.check(&[0, 0, 0, 255, 0, 0])), (Refusal::RuleBroken, Some(Place::Rule { address: 2, rule: 4 })));
+    assert_eq!(
+        refused(image.check(&[0, 0, 0, 255, 0, 0])),
+        (Refusal::RuleBroken, Some(Place::Rule { address: 2, rule: 4 }))
+    );
     assert_eq!(refused(image.check(&[0; 5])), (Refusal::WrongLength, None));
     let text = image.check(&[0, 0, 0, 255, 0, 0]).expect_err("rule 4").to_string();
     assert!(text.starts_with("refused 17 address 000002 rule 4: "), "{text}");
 }
 
-/// One instruction on %01 and %02: what, width, word, %01, %02, result in %01, Z and N where they are said.
+/// One instruction on %01 and %02: what, width, word, %01, %02, result in %01, Z and N where they
+/// are said.
 type Case = (&'static str, u32, u32, u32, u32, u32, Option<u32>, Option<u32>);
 
 const CASES: [Case; 10] = [
@@ -167,15 +188,19 @@ fn the_addresses_of_movx() {
     }
 }
 
-/// A port is read, another one written and the return stack pushed: inputs, log and stack in a trace.
+/// A port is read, another one written and the return stack pushed: inputs, log and stack in a
+/// trace.
 #[test]
 fn ports_and_calls_are_traced() {
     let source = "MOVIO %01,@%00\nMOVIO @%02,%01\nJSR 000003\nRET";
     let config = all_on(32, &[0; 4]).config;
-    let mut machine = machine(&Image::assemble(&config, source).expect("it is assembled")).with_inputs([0xabc]);
+    let mut machine =
+        machine(&Image::assemble(&config, source).expect("it is assembled")).with_inputs([0xabc]);
     machine.registers_mut()[2] = 5;
-    let lines: Vec<String> =
-        machine.trace(5).map(|step| step.map_or_else(|refused| refused.to_string(), |step| step.to_string())).collect();
+    let lines: Vec<String> = machine
+        .trace(5)
+        .map(|step| step.map_or_else(|refused| refused.to_string(), |step| step.to_string()))
+        .collect();
     let wanted = [
         "1 3 000000 b1010000 MOVIO %01,@%00 ; taken=1 %001=00000abc",
         "2 5 000001 b8020001 MOVIO @%02,%01 ; posted=1 port=00000005 logged=1 log=00000005:00000abc",

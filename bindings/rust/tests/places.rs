@@ -1,4 +1,5 @@
-//! Whether the fields of a configuration, an instruction and a record stand for the words that include/yam.h names.
+//! Whether the fields of a configuration, an instruction and a record stand for the words that
+//! include/yam.h names.
 
 use yam::{Config, Instruction, Record};
 
@@ -12,14 +13,18 @@ fn differing<const N: usize>() -> [u32; N] {
 
 /// The header's names with this prefix, in small letters, and their places.
 fn named(prefix: &str) -> Vec<(String, u32)> {
-    let entries = HEADER.lines().filter_map(|line| line.trim().trim_end_matches(',').strip_prefix(prefix)?.split_once(" = "));
+    let entries = HEADER.lines().filter_map(|line| {
+        line.trim().trim_end_matches(',').strip_prefix(prefix)?.split_once(" = ")
+    });
     entries.map(|(name, at)| (name.to_lowercase(), at.parse().expect("a place"))).collect()
 }
 
-/// Each name is a field that holds the word of its place. A struct is printed as `Config { im_size: 1000, .. }`.
+/// Each name is a field that holds the word of its place. A struct is printed as `Config { im_size:
+/// 1000, .. }`.
 fn fields_are_words(printed: &str, prefix: &str, but: &[&str]) -> usize {
     let printed = printed.replace(" }", ", ").replace('{', ",");
-    let names: Vec<_> = named(prefix).into_iter().filter(|(name, _)| !but.contains(&name.as_str())).collect();
+    let names: Vec<_> =
+        named(prefix).into_iter().filter(|(name, _)| !but.contains(&name.as_str())).collect();
     for (name, at) in &names {
         let field = format!(", {name}: {}, ", FIRST + at);
         assert!(printed.contains(&field), "{field:?} is not in {printed}");
@@ -37,9 +42,16 @@ fn fields_stand_for_the_words_of_the_header() {
     let record = Record::from_words(&words);
     let wide = ["taken_low", "taken_high", "logged_low", "logged_high", "stack", "zeros"];
     assert_eq!(fields_are_words(&format!("{record:?}"), "YAM_MACHINE_", &wide), 14);
-    let place =
-        |wanted: &str| named("YAM_MACHINE_").iter().find(|(name, _)| name == wanted).map(|(_, at)| *at as usize).expect(wanted);
-    let count = |low: &str, high: &str| u64::from(words[place(low)]) + (u64::from(words[place(high)]) << 32);
+    let place = |wanted: &str| {
+        named("YAM_MACHINE_")
+            .iter()
+            .find(|(name, _)| name == wanted)
+            .map(|(_, at)| *at as usize)
+            .expect(wanted)
+    };
+    let count = |low: &str, high: &str| {
+        u64::from(words[place(low)]) + (u64::from(words[place(high)]) << 32)
+    };
     assert_eq!(record.taken, count("taken_low", "taken_high"));
     assert_eq!(record.logged, count("logged_low", "logged_high"));
     assert_eq!(record.stack, words[place("stack")..place("loaded")]);

@@ -1,4 +1,5 @@
-//! What is refused, with its number and place; odd lengths and values of every kind, none of which panics.
+//! What is refused, with its number and place; odd lengths and values of every kind, none of which
+//! panics.
 
 use yam::{Config, Image, Instruction, Machine, Place, Record, Refusal, Refused};
 
@@ -51,14 +52,21 @@ fn every_number_has_its_name_and_meaning() {
     assert_eq!(Refusal::from_number(0), None);
     assert_eq!(Refusal::from_number(28), Some(Refusal::Unknown(28)));
     assert_eq!(Refusal::Unknown(28).number(), 28);
-    let error: Box<dyn std::error::Error> = Box::new(Refused { refusal: Refusal::Budget, place: None });
+    let error: Box<dyn std::error::Error> =
+        Box::new(Refused { refusal: Refusal::Budget, place: None });
     assert_eq!(error.to_string(), "refused 16: A budget above 1,000,000");
 }
 
 #[test]
 fn unlawful_configurations_are_refused_everywhere() {
-    let unlawful = |im_size, rm_size, dm_size| Config { im_size, rm_size, dm_size, ..six_words().config };
-    for config in [unlawful(0, 16, 32), unlawful(u32::MAX, 16, 32), unlawful(6, u32::MAX, 32), unlawful(6, 16, u32::MAX)] {
+    let unlawful =
+        |im_size, rm_size, dm_size| Config { im_size, rm_size, dm_size, ..six_words().config };
+    for config in [
+        unlawful(0, 16, 32),
+        unlawful(u32::MAX, 16, 32),
+        unlawful(6, u32::MAX, 32),
+        unlawful(6, 16, u32::MAX),
+    ] {
         let image = Image { config, words: vec![0; 6] };
         assert_eq!(refusal(config.read(0)), Refusal::UnlawfulConfig);
         assert_eq!(refusal(config.write(&Instruction::default())), Refusal::UnlawfulConfig);
@@ -89,9 +97,12 @@ fn damaged_files_are_refused() {
         let file: Vec<u8> = FILE.iter().copied().chain(std::iter::repeat(0)).take(length).collect();
         assert_eq!(refusal(Image::load(&file)), Refusal::FileLength, "{length} bytes");
     }
-    for (byte, wanted) in
-        [(0, Refusal::BlockNumber), (4, Refusal::BlockCheck), (512, Refusal::BlockNumber), (600, Refusal::BlockCheck)]
-    {
+    for (byte, wanted) in [
+        (0, Refusal::BlockNumber),
+        (4, Refusal::BlockCheck),
+        (512, Refusal::BlockNumber),
+        (600, Refusal::BlockCheck),
+    ] {
         let mut file = FILE.to_vec();
         file[byte] ^= 1;
         assert_eq!(refusal(Image::load(&file)), wanted, "byte {byte}");
@@ -137,7 +148,10 @@ fn a_refused_step_changes_nothing() {
         // What can be asked of such a record.
         assert!(machine.log().count() <= 256 && machine.record().returns().len() <= 63);
         let refused = machine.trace(1).next().expect("an item").expect_err("this is refused");
-        assert_eq!((refused.refusal, refused.place), (wanted, Some(Place::Run { steps: 0, cycles: 0 })));
+        assert_eq!(
+            (refused.refusal, refused.place),
+            (wanted, Some(Place::Run { steps: 0, cycles: 0 }))
+        );
         assert_eq!(machine, before);
     }
 }
@@ -185,7 +199,8 @@ fn a_log_of_unlike_lists_is_refused() {
 #[test]
 fn cells_beyond_the_width_are_refused() {
     let config = Config { im_size: 1, reg_width: 8, ..Config::default() };
-    let mut machine = Machine::new(&Image { config, words: vec![0] }).expect("the image has a machine");
+    let mut machine =
+        Machine::new(&Image { config, words: vec![0] }).expect("the image has a machine");
     machine.memory_mut()[31] = 256;
     assert_eq!(refusal(machine.step()), Refusal::OutOfRange);
     machine.memory_mut()[31] = 255;
@@ -214,8 +229,9 @@ fn nothing_panics() {
             parts = six_words().config.read(0x4686_0001).expect("it can be read").to_words();
             parts[at] = part;
         }
-        let bytes: Vec<u8> =
-            (0..numbers.next() % 40).map(|_| b"RET\nloop:JMP 0%#,@ \x00\xff"[numbers.next() as usize % 21]).collect();
+        let bytes: Vec<u8> = (0..numbers.next() % 40)
+            .map(|_| b"RET\nloop:JMP 0%#,@ \x00\xff"[numbers.next() as usize % 21])
+            .collect();
         passed[0] += usize::from(config.read(word).is_ok());
         passed[1] += usize::from(config.write(&Instruction::from_words(&parts)).is_ok());
         passed[2] += usize::from(config.text(word).is_ok());
