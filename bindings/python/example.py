@@ -1,21 +1,45 @@
 #!/usr/bin/env python3
-"""Loads an image file, runs it from reset and prints what the run answers and the registers.
+"""Traces an image file from reset and prints what it leaves.
 
-usage: example.py FILE [BUDGET]"""
+usage: example.py IMAGE [STEPS]
+
+Status 0 for a pass, 1 for a refusal or a stop, 2 for usage, 3 where a file could not be read."""
+import pathlib
 import sys
 
-import yam
+try:
+    import yam
+except ImportError as error:
+    print(error, file=sys.stderr)
+    sys.exit(3)
 
-file = open(sys.argv[1], "rb").read()
-image = yam.words(32768)
-number, config = yam.load(file, image)
-if number:
-    sys.exit(f"refused {number}")
-im_size, rm_size, dm_size = config[0], config[3], config[5]
-image = image[:im_size]
-machine, registers, memory = yam.machine(), yam.words(rm_size), yam.words(dm_size)
-budget = int(sys.argv[2]) if len(sys.argv) > 2 else 11
-number, steps, cycles = yam.run(config, image, [], machine, registers, memory, yam.words(0), yam.words(0), budget)
-print(f"number {number}, {steps} steps, {cycles} cycles, PC {machine[0]}, RX {machine[2]}")
-for at in range(0, rm_size, 8):
-    print(f"%{at:02x}", *(f"{cell:08x}" for cell in registers[at : at + 8]))
+STEPS = 11
+ROW = 8  # registers a line
+
+
+def main(arguments):
+    digits = all(given.isdecimal() and given.isascii() for given in arguments[1:])
+    if len(arguments) not in (1, 2) or not digits:
+        print(__doc__, file=sys.stderr)
+        return 2
+    try:
+        file = pathlib.Path(arguments[0]).read_bytes()
+    except (OSError, ValueError) as error:
+        print(f"example.py: {arguments[0]}: {error}", file=sys.stderr)
+        return 3
+    try:
+        image = yam.Image.load(file)
+        machine = yam.Machine(image)
+        for step in machine.trace(int(arguments[1]) if arguments[1:] else STEPS):
+            print(step)
+    except yam.Refused as refused:
+        print(f"example.py: {refused}", file=sys.stderr)
+        return 1
+    print(f"PC {machine.pc:06x}, RX {machine.rx:02x}, depth {machine.depth}")
+    for at in range(0, len(machine.registers), ROW):
+        print(f"%{at:02x}", *(f"{cell:08x}" for cell in machine.registers[at : at + ROW]))
+    return 0
+
+
+if __name__ == "__main__":
+    sys.exit(main(sys.argv[1:]))
