@@ -12,6 +12,8 @@ TOTAL = yam.Image.assemble(
     yam.Image.load((ROOT / "examples" / "blank.img").read_bytes()).config,
     (ROOT / "examples" / "total.s").read_bytes(),
 )
+# A port read of three cycles, a port write of two, again and again.
+PORTS = image_of(FULL, 0xB1010000, 0xB8000001, 0xC0000000)
 
 
 class Cases(unittest.TestCase):
@@ -60,9 +62,12 @@ class Runs(unittest.TestCase):
         self.assertEqual(machine.run(), yam.Ran(steps=1000, cycles=2000))
 
     def test_a_run_is_its_steps(self):
-        for image in (SIX, TOTAL):
+        def made(image):
+            return yam.Machine(image, inputs=range(50), log_places=50)
+
+        for image in (PORTS, SIX, TOTAL):
             for steps in range(50):
-                ran, stepped, traced = (yam.Machine(image, log_places=2) for _ in range(3))
+                ran, stepped, traced = made(image), made(image), made(image)
                 answer = ran.run(steps)
                 cycles = sum(stepped.step() for _ in range(steps))
                 last = [(step.step, step.cycles) for step in traced.trace(steps)][-1:]

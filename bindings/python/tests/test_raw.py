@@ -190,10 +190,10 @@ class EmptyLists(unittest.TestCase):
 
 class Misuse(unittest.TestCase):
     def test_values(self):
-        for wrong in ([1 << 32], [-1], [0, 1 << 70]):
+        for wrong in ([1 << 32], [-1], [5, -1], [0, 1 << 70]):
             with self.assertRaises(ValueError):
                 raw.words(wrong)
-        for wrong in ([256], [-1]):
+        for wrong in ([256, 0], [-1, 0]):
             with self.assertRaises(ValueError):
                 raw.octets(wrong)
         for length in (-1, 1 << 62, 1 << 100):

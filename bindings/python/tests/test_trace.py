@@ -136,6 +136,12 @@ class Traces(unittest.TestCase):
             (step,) = machine.trace(1)
             self.assertEqual(step.changes, {f"&{place:04x}": 7})
 
+    def test_cells_rise(self):
+        before = yam.raw.words(37)
+        now = yam.raw.words([at in (0, 5, 17, 18, 36) for at in range(37)])
+        found = yam.steps._differing(bytes(before), bytes(now))
+        self.assertEqual(found, [0, 5, 17, 18, 36])
+
     def test_budget(self):
         machine = yam.Machine(SIX)
         self.assertEqual(list(machine.trace(0)), [])
