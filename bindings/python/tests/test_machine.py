@@ -184,7 +184,7 @@ class Misuse(unittest.TestCase):
             ):
                 with self.assertRaises(error):
                     yam.Machine(SIX, **{name: wrong})
-        for wrong, error in ((-1, ValueError), (1 << 70, ValueError), ("2", TypeError)):
+        for wrong, error in ((-1, ValueError), (1 << 32, ValueError), ("2", TypeError)):
             with self.assertRaises(error):
                 yam.Machine(SIX, log_places=wrong)
 

@@ -196,7 +196,7 @@ class Misuse(unittest.TestCase):
         for wrong in ([256, 0], [-1, 0]):
             with self.assertRaises(ValueError):
                 raw.octets(wrong)
-        for length in (-1, 1 << 62, 1 << 100):
+        for length in (-1, (1 << 26) + 1, 1 << 62, 1 << 100):
             with self.assertRaises(ValueError):
                 raw.words(length)
         for wrong in (["1"], [1.0], [None], "12", 1.5, memoryview(raw.words(2))):

@@ -135,7 +135,7 @@ class Images(unittest.TestCase):
         self.assertEqual(number_of(yam.Image.load, SIX_FILE + bytes(512)), 19)
 
     def test_lengths(self):
-        for words in (SIX_WORDS[:5], SIX_WORDS + [0], []):
+        for words in (SIX_WORDS[:5], SIX_WORDS + [0], [], [0] * 32769):
             image = yam.Image(SIX_CONFIG, words)
             for call, *arguments in (
                 (image.store,),
@@ -176,6 +176,9 @@ def repaired(place, value):
 class Texts(unittest.TestCase):
     def test_listing(self):
         self.assertEqual(yam.listing(SIX), SIX_LISTED)
+        longest = image_of(FULL, *[0x98061800] * 3)
+        lines = [f"00000{at} 98061800 MOVX @%06,@%X+,S\n" for at in range(3)]
+        self.assertEqual(yam.listing(longest), "".join(lines))
         unread = image_of(FULL, 0x58000000, 0xC0000006)
         self.assertEqual(yam.listing(unread), "000000 58000000 ?5\n000001 c0000006 ?7\n")
 

@@ -58,7 +58,8 @@ class Image:
 
         Refused by 1 (UNLAWFUL_CONFIG) and 2 (WRONG_LENGTH).
         """
-        blocks = 1 + (len(self.words) + BLOCK_WORDS - 1) // BLOCK_WORDS
+        words = min(len(self.words), MOST_WORDS)  # of more, the length is refused
+        blocks = 1 + (words + BLOCK_WORDS - 1) // BLOCK_WORDS
         file = raw.octets(BLOCK_BYTES * blocks)
         number = raw.store(config_list(self.config), image_list(self), file)
         if number:
@@ -86,7 +87,7 @@ def listing(image: Image) -> str:
     Refused by 1 (UNLAWFUL_CONFIG) and 2 (WRONG_LENGTH).
     """
     words = image_list(image)
-    page = raw.octets(len(words) * LINE_BYTES)
+    page = raw.octets(min(len(words), MOST_WORDS) * LINE_BYTES)
     number, place, _ = raw.listing(config_list(image.config), words, 0, page, 0)
     if number:
         raise Refused(number)

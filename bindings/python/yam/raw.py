@@ -26,6 +26,7 @@ LOADED = 80  # 1 once an LDYX has run since reset; until then RX and RY are 0
 STACK_PLACES = LOADED - STACK
 
 WORD_BITS, COUNT_BITS = 32, 64
+MOST_ELEMENTS = 1 << 26  # of a list of zeros: a larger one is a mistake, and could take all memory
 
 _Word, _Octet, _Count, _Size = ctypes.c_uint32, ctypes.c_uint8, ctypes.c_uint64, ctypes.c_size_t
 _Array, _addressof, _sizeof = ctypes.Array, ctypes.addressof, ctypes.sizeof
@@ -56,10 +57,9 @@ def fitting(value: int, bits: int) -> int:
 
 
 def _zeros(kind: Any, length: int) -> Any:
-    try:
-        return (kind * length)()
-    except (OverflowError, MemoryError):
-        raise ValueError(f"a list of {length} elements is too long") from None
+    if not 0 <= length <= MOST_ELEMENTS:
+        raise ValueError(f"a list has 0 to {MOST_ELEMENTS} elements, not {length}")
+    return (kind * length)()
 
 
 def _filled(kind: Any, values: Iterable[int]) -> Any:

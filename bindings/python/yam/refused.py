@@ -30,8 +30,8 @@ class Refused(Exception):
         steps: Optional[int] = None,
         cycles: Optional[int] = None,
     ) -> None:
-        super().__init__(number)
-        self.number = number
+        super().__init__(int(number))
+        self.number = int(number)
         self.refusal: Optional[Refusal] = _named(number)
         self.meaning: str = meaning(number)
         self.address = address
