@@ -1,18 +1,18 @@
--- What comes of a CONFIG and a WORDS: docs/commands.md, 'yam pack'.
+-- What comes of a CONFIG and a WORDS, and what the program prints: docs/commands.md, 'yam pack'.
 use Prim.Native.Nat.{ℕ}
-use mathlib.Core.List.{List, [], _∷_}
+use mathlib.Core.List.{List, [], _∷_, _++_}
 use lib.Dec.{eqb, leb}
-use lib.ListN.{length, take}
+use lib.ListN.{length}
 use Rattle.laws.specs.Choice.{pick}
 use Rattle.laws.specs.Test.{Test, same, most}
 use Rattle.laws.specs.First.{first-failing}
+use Rattle.syntax.specs.Quoted.{quoted}
 use Rattle.words.specs.declared.Config.{Config}
 use Rattle.words.specs.Configs.{lawful}
 use Rattle.image.specs.Storing.{fileOf}
 use Rattle.parsing.specs.Words.{Reading, good, bad, wordsIn}
 use Rattle.parsing.specs.Generics.{Gathered, all, malformed, gatheredIn, configOf}
-use Rattle.yam_pack.specs.declared.Outcome.{Outcome}
-use Rattle.yam_pack.specs.declared.Outcome.the-variants.{Length, Entry, Line, Refused, Written}
+use Rattle.printing.specs.Numerals.{decimal, refusalLine}
 
 pub data Packed : Type 0 where
   long : ℕ → Packed  -- "malformed length N": a text above its N bytes
@@ -50,10 +50,16 @@ withConfig (malformed k) text = entry k
 unfoldable pub packedOf : List ℕ → List ℕ → Packed
 packedOf config text = pick (leb (length config) configBytes) (withConfig (gatheredIn config) text) (long configBytes)
 
--- what the program finds: the file stands in the first bytes of its buffer
-abbrev pub found : Outcome → List ℕ → Packed
-found (Length n) buffer = long n
-found (Entry n) buffer = entry n
-found (Line n) buffer = line n
-found (Refused n) buffer = refused n
-found (Written n) buffer = file (take n buffer)
+-- what is printed: "a program prints one line and nothing else where a text is not in its form"; "the line `refused N`"; the file
+unfoldable pub malformedLine : List ℕ → ℕ → List ℕ
+malformedLine name n = name ++ (decimal n ++ quoted "\n")
+
+unfoldable pub textOf : Packed → List ℕ
+textOf (long n) = malformedLine (quoted "malformed length ") n
+textOf (entry n) = malformedLine (quoted "malformed entry ") n
+textOf (line n) = malformedLine (quoted "malformed line ") n
+textOf (refused n) = refusalLine n
+textOf (file bytes) = bytes
+
+unfoldable pub printedOf : List ℕ → List ℕ → List ℕ
+printedOf config text = textOf (packedOf config text)

@@ -6,9 +6,14 @@ ghost use Prim.Native.Nat.{_≤_};
 ghost use lib.ListN.{length, take};
 ghost use Rattle.laws.specs.First.{first-failing};
 ghost use Rattle.image.specs.File.{fileSize};
-ghost use Rattle.yam_pack.specs.Packing.{packTests, imageOf, packedOf, found};
+ghost use Rattle.printing.specs.Puts.{Puts};
+ghost use Rattle.yam_pack.specs.Packing.{packTests, imageOf, packedOf, malformedLine, printedOf};
+ghost use Rattle.yam_pack.specs.Claims.{Packs, Follows};
 use files::read_all;
 use files::read_file;
+use printing::put_bytes;
+use printing::put_decimal;
+use printing::put_refusal;
 use words::Config;
 
 const CONFIG_BYTES: usize = 4096;
@@ -57,16 +62,16 @@ fn file_size(n: usize) -> usize
 }
 
 // Packs n words, of which those that there is room for stand in `words`.
-fn pack_words(c: Config, n: usize, words: &[u32], file: &mut [u8]) -> Outcome
-    requires { ⌜ (length (now words) ≡ 8192) × (length (now file) ≡ 34304) ⌝ }
-    ensures { λ r. ⌜ found r (now (file .exit)) ≡ imageOf c n (take n (now (words .entry))) ⌝ }
+fn pack_words(c: Config, n: usize, words: &[u32], page: &mut [u8]) -> Outcome
+    requires { ⌜ (length (now words) ≡ 8192) × (length (now page) ≡ 34304) ⌝ }
+    ensures { λ r. ⌜ Packs (imageOf c n (take n (now (words .entry)))) (now (page .entry)) r (now (page .exit)) ⌝ }
 {
     let number = refusal(c, n);
     if number != 0 {
         return Outcome::Refused(number);
     }
     let size = file_size(n);
-    image::store(c, &words[..n], &mut file[..size]);
+    image::store(c, &words[..n], &mut page[..size]);
     Outcome::Written(size)
 }
 
@@ -75,9 +80,9 @@ fn pack(
     config: &[u8],
     text: &[u8],
     words: &mut [u32; WORDS],
-    file: &mut [u8; FILE_BYTES],
+    page: &mut [u8; FILE_BYTES],
 ) -> Outcome
-    ensures { λ r. ⌜ found r (now (file .exit)) ≡ packedOf (now (config .entry)) (now (text .entry)) ⌝ }
+    ensures { λ r. ⌜ Packs (packedOf (now (config .entry)) (now (text .entry))) (now (page .entry)) r (now (page .exit)) ⌝ }
 {
     if CONFIG_BYTES < config.len() {
         return Outcome::Length(CONFIG_BYTES);
@@ -96,42 +101,40 @@ fn pack(
         return Outcome::Line(line);
     }
     let c = g.config;
-    pack_words(c, h.count, words, file)
+    pack_words(c, h.count, words, page)
 }
 
-fn unwritten() {
-    os::fail(b"standard output");
-}
-
-// A line: a word or two, a space, a number.
-fn print_line(name: &[u8], n: u64) {
-    if !(io::write_all(1, name) & io::print_decimal(1, n) & io::write_all(1, b"\n")) {
-        unwritten();
-    }
-}
-
-// n, or `most` where n is above it.
-fn within(n: usize, most: usize) -> usize
-    ensures { λ r. ⌜ r ≤ most ⌝ }
+fn put_malformed(page: &mut [u8], name: &[u8], n: usize) -> usize
+    ensures { λ r. ⌜ Puts (now (page .entry)) 0 (malformedLine (now (name .entry)) n) r (now (page .exit)) ⌝ }
 {
-    if n < most { n } else { most }
+    let i = put_bytes(page, 0, name);
+    let j = put_decimal(page, i, n as u64);
+    put_bytes(page, j, b"\n")
 }
 
-fn print_file(file: &[u8], n: usize) {
-    let size = within(n, file.len());
-    if !io::write_all(1, &file[..size]) {
-        unwritten();
-    }
-}
-
-fn print_outcome(r: Outcome, file: &[u8]) {
+fn put_outcome(r: Outcome, page: &mut [u8]) -> usize
+    ensures { λ n. ⌜ Follows r (now (page .entry)) n (now (page .exit)) ⌝ }
+{
     match r {
-        Outcome::Length(n) => print_line(b"malformed length ", n as u64),
-        Outcome::Entry(n) => print_line(b"malformed entry ", n as u64),
-        Outcome::Line(n) => print_line(b"malformed line ", n as u64),
-        Outcome::Refused(n) => print_line(b"refused ", n as u64),
-        Outcome::Written(n) => print_file(file, n),
+        Outcome::Length(n) => put_malformed(page, b"malformed length ", n),
+        Outcome::Entry(n) => put_malformed(page, b"malformed entry ", n),
+        Outcome::Line(n) => put_malformed(page, b"malformed line ", n),
+        Outcome::Refused(number) => put_refusal(page, 0, number),
+        Outcome::Written(n) => n,
     }
+}
+
+// Packs the two texts and puts what comes of them.
+fn put_packed(
+    config: &[u8],
+    text: &[u8],
+    words: &mut [u32; WORDS],
+    page: &mut [u8; FILE_BYTES],
+) -> usize
+    ensures { λ r. ⌜ Puts (now (page .entry)) 0 (printedOf (now (config .entry)) (now (text .entry))) r (now (page .exit)) ⌝ }
+{
+    let r = pack(config, text, words, page);
+    put_outcome(r, page)
 }
 
 // Reads WORDS, packs the two texts and prints what comes of them.
@@ -140,15 +143,15 @@ fn pack_file(
     config: &[u8],
     text: &mut [u8],
     words: &mut [u32; WORDS],
-    file: &mut [u8; FILE_BYTES],
+    page: &mut [u8; FILE_BYTES],
 ) {
     let input = read_file(path, text);
     if input.failed {
         return;
     }
     let n = input.bytes;
-    let r = pack(config, &text[..n], words, file);
-    print_outcome(r, file);
+    let bytes = put_packed(config, &text[..n], words, page);
+    files::print(page, bytes);
 }
 
 // Reads CONFIG first.
@@ -157,7 +160,7 @@ fn pack_named(
     config: &mut [u8],
     text: &mut [u8; TEXT_BYTES + 1],
     words: &mut [u32; WORDS],
-    file: &mut [u8; FILE_BYTES],
+    page: &mut [u8; FILE_BYTES],
 ) {
     let input = read_all(0, config);
     if input.failed {
@@ -165,7 +168,7 @@ fn pack_named(
         return;
     }
     let n = input.bytes;
-    pack_file(path, &config[..n], text, words, file);
+    pack_file(path, &config[..n], text, words, page);
 }
 
 fn main() {
@@ -182,12 +185,12 @@ fn main() {
     let mut config = [0u8; CONFIG_BYTES + 1];
     let mut text = [0u8; TEXT_BYTES + 1];
     let mut words = [0u32; WORDS];
-    let mut file = [0u8; FILE_BYTES];
+    let mut page = [0u8; FILE_BYTES];
     pack_named(
         &path[..length],
         &mut config,
         &mut text,
         &mut words,
-        &mut file,
+        &mut page,
     );
 }
