@@ -1,2 +1,3 @@
 pub mod FromOne
+pub mod Printed
 pub mod RoundTrip

@@ -1,1 +1,2 @@
 pub mod Generics
+pub mod Claims

@@ -2,6 +2,7 @@
 // the line "refused" with document 01's number (specs/Generics.antt). What cannot be read or written is said on standard error.
 ghost use Rattle.parsing.specs.Words.{printed};
 ghost use Rattle.printing.specs.Puts.{Puts};
+ghost use Rattle.yam_config.specs.Claims.{ReadBack};
 ghost use Rattle.yam_config.specs.Generics.{genericLine, linesFrom, genericsText, printedOf};
 use files::read_all;
 use printing::put_bytes;
@@ -62,8 +63,9 @@ fn put_rest(c: Config, page: &mut [u8], at: usize) -> usize
     put_generic(page, n, b"YAM_DBG", c.yamdbg)
 }
 
+// Puts the generics' lines, which name the configuration again (specs/Claims.antt).
 fn put_generics(c: Config, page: &mut [u8]) -> usize
-    ensures { λ r. ⌜ Puts (now (page .entry)) 0 (genericsText c) r (now (page .exit)) ⌝ }
+    ensures { λ r. ⌜ Puts (now (page .entry)) 0 (genericsText c) r (now (page .exit)) × ReadBack ⌝ }
 {
     let i = put_memories(c, page, 0);
     let j = put_options(c, page, i);

@@ -19,11 +19,11 @@ use Rattle.parsing.specs.Claims.{Next}
 
 -- a run, byte by byte
 
-run-first : (k : Kind) (b : ℕ) (t : List ℕ) → isOf k b ≡ true → runOf k (b ∷ t) ≡ suc (runOf k t)
+pub run-first : (k : Kind) (b : ℕ) (t : List ℕ) → isOf k b ≡ true → runOf k (b ∷ t) ≡ suc (runOf k t)
 unfolding runOf pick
 run-first k b t e = rw e
 
-run-none : (k : Kind) (b : ℕ) (t : List ℕ) → isOf k b ≡ false → runOf k (b ∷ t) ≡ 0
+pub run-none : (k : Kind) (b : ℕ) (t : List ℕ) → isOf k b ≡ false → runOf k (b ∷ t) ≡ 0
 unfolding runOf pick
 run-none k b t e = rw e
 
@@ -46,7 +46,7 @@ module _ (k : Kind) (t : List ℕ) (j : ℕ) (e : runOf k t ≡ j + runOf k (dro
 
 -- entries, byte by byte
 
-entries-blank : (b : ℕ) (t : List ℕ) → isBlank b ≡ true → entriesOf (b ∷ t) ≡ entriesOf t
+pub entries-blank : (b : ℕ) (t : List ℕ) → isBlank b ≡ true → entriesOf (b ∷ t) ≡ entriesOf t
 unfolding entriesOf pick
 entries-blank b t e = rw e
 
@@ -94,11 +94,11 @@ unfolding runOf ended
 ended-none [] e = refl
 ended-none (b ∷ t) e = run-none Filled b t (not-filled b e)
 
-entries-one : (b : ℕ) (t : List ℕ) → isBlank b ≡ false → ended t ≡ true → entriesOf (b ∷ t) ≡ (b ∷ []) ∷ entriesOf t
+pub entries-one : (b : ℕ) (t : List ℕ) → isBlank b ≡ false → ended t ≡ true → entriesOf (b ∷ t) ≡ (b ∷ []) ∷ entriesOf t
 unfolding entriesOf pick
 entries-one b t e d = rw (e, d)
 
-entries-onto : (b : ℕ) (t : List ℕ) → isBlank b ≡ false → ended t ≡ false → entriesOf (b ∷ t) ≡ onto b (entriesOf t)
+pub entries-onto : (b : ℕ) (t : List ℕ) → isBlank b ≡ false → ended t ≡ false → entriesOf (b ∷ t) ≡ onto b (entriesOf t)
 unfolding entriesOf pick
 entries-onto b t e d = rw (e, d)
 

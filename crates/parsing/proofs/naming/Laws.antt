@@ -141,7 +141,7 @@ module _ (n : ℕ) (marks : List Bool) (vs e : List ℕ) (es : List (List ℕ)) 
     unfolding gather pick
     again m = rw (← q, lt-ltb (g .place) genericCount h, m)
 
-    first : getD marks (g .place) false ≡ false → gather n marks vs (e ∷ es) ≡ gather (suc n) (set marks (g .place) true) (set vs (g .place) (g .value)) es
+    pub first : getD marks (g .place) false ≡ false → gather n marks vs (e ∷ es) ≡ gather (suc n) (set marks (g .place) true) (set vs (g .place) (g .value)) es
     unfolding gather pick
     first m = rw (← q, lt-ltb (g .place) genericCount h, m)
 
