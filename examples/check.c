@@ -46,13 +46,14 @@ int main(int count, char **arguments)
         number = yam_load_struct(file, length, &config, image, MOST_WORDS);
     if (number == YAM_PASSES) {
         length = count == 3 ? read_file(arguments[2], certificate, MOST_WORDS) : config.imsize;
-        number = yam_check_struct(&config, image, config.imsize, certificate, length, &level, &address,
-                                  &rule);
+        number = yam_check_struct(&config, image, config.imsize, certificate, length, &level,
+                                  &address, &rule);
     }
     if (number == YAM_PASSES)
         printf("passes level %u\n", (unsigned)level);
     else if (number == YAM_RULE_BROKEN)
-        printf("refused %u address %06x rule %u\n", (unsigned)number, (unsigned)address, (unsigned)rule);
+        printf("refused %u address %06x rule %u\n", (unsigned)number, (unsigned)address,
+               (unsigned)rule);
     else
         printf("refused %u\n", (unsigned)number);
     return number == YAM_PASSES ? PASSED : REFUSED;
