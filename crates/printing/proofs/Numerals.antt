@@ -1,11 +1,13 @@
 -- The fewest decimal digits of a number are `placesFrom`'s. Assumes nothing.
 use Prim.Native.Nat.{ℕ, zero, suc, _+_, _*_, _-_, _/_, _^_, _<_, _≤_}
 use mathlib.Core.Path.{_≡_, refl, sym, ap, _∙_}
-use mathlib.Core.List.{List}
+use mathlib.Core.List.{List, _++_}
 use native.Mathlib.Numerals.{unary-clauses}
 use native.Mathlib.Omega.{arith}
 use borrow.Author.Tests.{lt-ltb, le-ltb}
-use Rattle.laws.specs.Choice.{pick}
+use lib.Dec.{ltb}
+use lib.ListN.{length, length-append}
+use Rattle.laws.specs.Choice.{pick, either}
 use Rattle.io.specs.Digits.{digits, Fewest}
 use Rattle.printing.specs.Numerals.{placesFrom, decimal}
 
@@ -36,3 +38,19 @@ fewest (suc f) n (suc (suc k)) h x =
 pub decimal-is : (n k : ℕ) (bytes : List ℕ) → n < 2 ^ 64 → Fewest 10 1 n k → bytes ≡ digits 10 k n → bytes ≡ decimal n
 unfolding decimal
 decimal-is n k bytes h x e = e ∙ ap (λ (m : ℕ). digits 10 m n) (fewest 19 n k (omega arith) x)
+
+length-digits : (b k n : ℕ) → length (digits b k n) ≡ k
+length-digits b zero n = refl
+length-digits b (suc k) n = rw length-append (omega (arith, length-digits b k (n / b)))
+
+-- two digits below 100
+
+low : (m : ℕ) → m < 10 → suc (placesFrom 18 m) ≤ 2
+unfolding placesFrom pick
+low m k = rw (lt-ltb m 10 k) (omega arith)
+
+pub decimal-short : (n : ℕ) → n < 100 → length (decimal n) ≤ 2
+unfolding decimal placesFrom
+decimal-short n h =
+    rw length-digits
+    (either (λ (k : ℕ). k ≤ 2) (ltb n 10) 1 (suc (placesFrom 18 (n / 10))) (λ _. omega arith) (λ _. low (n / 10) (omega arith)))

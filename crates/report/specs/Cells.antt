@@ -26,7 +26,7 @@ eachPair before w between after (a ∷ rest) [] = []
 eachPair before w between after (a ∷ rest) (v ∷ vs) =
     (before ++ (hex w a ++ (between ++ (hex w v ++ after)))) ++ eachPair before w between after rest vs
 
--- "`%` and the place of its first cell: eight cells of the register memory, each a space and hex W/4"; d digits of the place
+-- "`%` and a place: eight cells of the register memory from there on, each a space and hex W/4"; d digits of the place
 unfoldable pub nameText : ℕ → ℕ → List ℕ
 nameText d i = pick (eqb (i % 8) 0) (quoted "%" ++ hex d i) []
 

@@ -19,7 +19,9 @@ use Rattle.image.specs.Loading.{Load, zeros, blockTests, blocksTests, headTests
 use Rattle.image.proofs.Lists.{length-words}
 use Rattle.image.proofs.loading.Laws.{load-is, rest-passed}
 use Rattle.text.specs.Claims.{linesToEnd}
-use Rattle.yam_list.specs.Printing.{wordLimit, fileLimit, fileNumber, refusalLine, printedOf}
+use Rattle.yam_list.specs.Printing.{wordLimit, fileNumber, printedOf}
+use Rattle.printing.specs.Numerals.{refusalLine}
+use Rattle.opening.specs.Opening.{fileLimit, numberOf, opened, openOf}
 use Rattle.yam_list.specs.Claims.{toCome, CutOff, Opens}
 use Rattle.yam_list.proofs.Pages.{run-joined}
 
@@ -99,16 +101,8 @@ load-length f image = go (eqb (loadNumber f (length image)) 0) refl
 
 -- the limit on the file
 
-pub too-long : (bytes n : ℕ) → fileLimit < bytes → 2 ≡ pick (leb bytes fileLimit) n 2
-unfolding pick
-too-long bytes n h = rw (lt-leb bytes fileLimit h)
-
-pub not-too-long : (bytes n : ℕ) → bytes ≤ fileLimit → n ≡ pick (leb bytes fileLimit) n 2
-unfolding pick
-not-too-long bytes n h = rw (le-leb bytes fileLimit h)
-
 long-printed : (f : List ℕ) → fileLimit < length f → printedOf f ≡ refusalLine 2
-unfolding printedOf fileNumber pick
+unfolding printedOf fileNumber numberOf pick
 long-printed f h = rw (lt-leb (length f) fileLimit h)
 
 cut-off : CutOff
@@ -129,7 +123,7 @@ module _ (f image after : List ℕ) (n : ℕ) (c : Config) (l : Loaded) (size : 
   number-is = ap (λ (r : Load). r .number) loads ∙ load-number f image ∙ ap (loadNumber f) size
 
   file-number : l .number ≡ fileNumber f
-  unfolding fileNumber
+  unfolding fileNumber numberOf
   file-number = number ∙ ap (λ (k : ℕ). pick (leb (length f) fileLimit) k 2) number-is
 
   l-small : l .number < 100
@@ -180,3 +174,11 @@ module _ (f image after : List ℕ) (n : ℕ) (c : Config) (l : Loaded) (size : 
     cut-off = cut-off;
     pages = λ ts h. run-joined (toCome l after) (l .config .imsize) 0 ts h ∙ prints-file;
   }
+
+-- what `opening::open` answers and leaves
+pub opened-opens : (f image after : List ℕ) (l : Loaded) → length image ≡ wordLimit → opened l after ≡ openOf f image → Opens f image l after
+unfolding openOf numberOf
+opened-opens f image after l size e =
+    let x = loadOf f image in
+    opens f image after (x .number) (x .config) l size (ap (λ (z : List ℕ). record { number = x .number; config = x .config; image = z }) (ap (λ (z : Load). z .image) e))
+    (ap (λ (z : Load). z .number) e) (ap (λ (z : Load). z .config) e)

@@ -21,7 +21,9 @@ use Rattle.text.specs.Claims.{linesToEnd, printedFrom, lineFrame, Lists}
 use Rattle.text.proofs.Written.{between, beyond-stays, length-written}
 use Rattle.files.proofs.Counts.{counts}
 use Rattle.yam_list.specs.declared.Printed.{Printed}
-use Rattle.yam_list.specs.Printing.{refusalBytes, refusalLine}
+use Rattle.yam_list.specs.Printing.{refusalBytes}
+use Rattle.printing.specs.Numerals.{refusalLine}
+use Rattle.printing.specs.Puts.{Puts}
 use Rattle.yam_list.specs.Claims.{toCome, Prints, Turn, Turns, joinedPages}
 use Rattle.yam_list.proofs.Lines.{refusal-short}
 
@@ -37,16 +39,17 @@ pub refusal-waits : (n next : ℕ) (page : List ℕ) → length page < refusalBy
 unfolding pick
 refusal-waits n next page h = record { joined = refl; fits = counts 0 page (omega arith); keeps = refl; forward = λ k _. absurd (omega arith) }
 
-pub refusal-printed : (n next r : ℕ) (page after : List ℕ) → refusalBytes ≤ length page → Wrote page 0 (refusalLine n) r after →
+pub refusal-printed : (n next r : ℕ) (page after : List ℕ) → n < 100 → refusalBytes ≤ length page → Puts page 0 (refusalLine n) r after →
     Prints (λ _. refusalLine n) 0 next page (printed r next false) after
 unfolding pick
-refusal-printed n next r page after h w =
+refusal-printed n next r page after small h p =
     let t = refusalLine n in
-    let k : 0 + length t ≤ length page = omega (arith, refusal-short n) in
+    let k : 0 + length t ≤ length page = omega (arith, refusal-short n small) in
+    let w = p .fits k in
     rw (w .page, w .next)
     (record {
       joined = append-nil _ ∙ between page 0 t k;
-      fits = counts (0 + length t) (written page 0 t) (omega (arith, length-written page 0 t, refusal-short n));
+      fits = counts (0 + length t) (written page 0 t) (omega (arith, length-written page 0 t, refusal-short n small));
       keeps = beyond-stays page 0 t k;
       forward = λ _ e. absurd (false-not-true e);
     })

@@ -14,7 +14,9 @@ use Rattle.io.specs.Counts.{Counts}
 use Rattle.text.specs.Texts.{textLimit}
 use Rattle.text.specs.Claims.{linesToEnd, lineFrame}
 use Rattle.yam_list.specs.declared.Printed.{Printed}
-use Rattle.yam_list.specs.Printing.{wordLimit, fileLimit, fileNumber, refusalLine, printedOf}
+use Rattle.yam_list.specs.Printing.{wordLimit, fileNumber, printedOf}
+use Rattle.printing.specs.Numerals.{refusalLine}
+use Rattle.opening.specs.Opening.{fileLimit}
 
 -- what is to come of a file that was loaded: from the line of an address on, or its refusal
 unfoldable pub toCome : Loaded → List ℕ → ℕ → List ℕ

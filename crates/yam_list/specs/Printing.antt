@@ -1,31 +1,24 @@
 -- What the program prints for the bytes of a file.
 use Prim.Native.Nat.{ℕ}
-use mathlib.Core.List.{List, _++_}
-use lib.Dec.{eqb, leb}
+use mathlib.Core.List.{List}
+use lib.Dec.{eqb}
 use lib.ListN.{length}
 use Rattle.laws.specs.Choice.{pick}
-use Rattle.syntax.specs.Quoted.{quoted}
 use Rattle.image.specs.File.{configOf, imageWords}
 use Rattle.image.specs.Loading.{loadNumber}
-use Rattle.text.specs.Texts.{decimal}
+use Rattle.printing.specs.Numerals.{refusalLine}
+use Rattle.opening.specs.Opening.{numberOf}
 use Rattle.text.specs.Claims.{linesToEnd}
 
--- the words that the program has room for, and the bytes of the file of so many: 67 blocks of 512
+-- the words that the program has room for
 abbrev pub wordLimit : ℕ
 wordLimit = 8192
 
-abbrev pub fileLimit : ℕ
-fileLimit = 34304
-
--- 2 for a longer file, else what loading it answers
+-- 2 for a file past 34,304 bytes, else what loading it answers
 unfoldable pub fileNumber : List ℕ → ℕ
-fileNumber f = pick (leb (length f) fileLimit) (loadNumber f wordLimit) 2
+fileNumber f = numberOf (length f) (loadNumber f wordLimit)
 
--- "refused" and document 01's number
-unfoldable pub refusalLine : ℕ → List ℕ
-refusalLine n = quoted "refused " ++ (decimal n ++ quoted "\n")
-
--- the bytes of the longest such line
+-- the bytes of the longest line of a refusal
 abbrev pub refusalBytes : ℕ
 refusalBytes = 11
 

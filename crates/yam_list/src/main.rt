@@ -2,14 +2,10 @@
 // "refused" with document 01's number; so does one past 34,304 bytes (67 blocks, the file of 8,192 words), with 2. specs/Printing.antt says what is printed.
 // What cannot be read or written is said on standard error.
 ghost use mathlib.Core.Path.{_≡_};
-ghost use Prim.Native.Nat.{_+_, _<_, _≤_};
-ghost use lib.Dec.{leb};
-ghost use lib.ListN.{length, take};
-ghost use Rattle.laws.specs.Choice.{pick};
+ghost use Prim.Native.Nat.{_<_};
+ghost use lib.ListN.{take};
 ghost use Rattle.text.specs.Claims.{Lists, linesToEnd};
-ghost use Rattle.text.specs.Pages.{Wrote};
-ghost use Rattle.text.specs.Texts.{decimal};
-ghost use Rattle.yam_list.specs.Printing.{fileLimit, refusalBytes, refusalLine};
+ghost use Rattle.printing.specs.Numerals.{refusalLine};
 ghost use Rattle.yam_list.specs.Claims.{Opens, Prints, Ready, toCome};
 use image::Loaded;
 use text::Listed;
@@ -31,61 +27,11 @@ struct Printed {
     more: bool,
 }
 
-// The number of a file of so many bytes, where loading it answers `number`.
-fn file_number(bytes: usize, number: u32) -> u32
-    ensures { λ r. ⌜ r ≡ pick (leb bytes fileLimit) number 2 ⌝ }
-{
-    if FILE_BYTES < bytes {
-        return 2;
-    }
-    number
-}
-
 // Loads the file into the image.
 fn load_file(file: &[u8], image: &mut [u32; WORDS]) -> Loaded
     ensures { λ r. ⌜ Opens (now (file .entry)) (now (image .entry)) r (now (image .exit)) ⌝ }
 {
-    let l = image::load(file, image);
-    let config = l.config;
-    Loaded {
-        number: file_number(file.len(), l.number),
-        config,
-    }
-}
-
-// Stores the bytes from `at` on.
-fn put_bytes(page: &mut [u8], at: usize, bytes: &[u8]) -> usize
-    requires { ⌜ at + length (now bytes) ≤ length (now page) ⌝ }
-    ensures { λ r. ⌜ Wrote (now (page .entry)) at (now (bytes .entry)) r (now (page .exit)) ⌝ }
-{
-    let mut i = 0;
-    while i < bytes.len() {
-        page[at + i] = bytes[i];
-        i += 1;
-    }
-    at + i
-}
-
-fn put_decimal(page: &mut [u8], at: usize, n: u32) -> usize
-    requires { ⌜ (n < 100) × (at + 2 ≤ length (now page)) ⌝ }
-    ensures { λ r. ⌜ Wrote (now (page .entry)) at (decimal n) r (now (page .exit)) ⌝ }
-{
-    if n < 10 {
-        page[at] = (n + 48) as u8;
-        return at + 1;
-    }
-    page[at] = (n / 10 + 48) as u8;
-    page[at + 1] = (n % 10 + 48) as u8;
-    at + 2
-}
-
-fn put_refusal(page: &mut [u8], n: u32) -> usize
-    requires { ⌜ (n < 100) × (refusalBytes ≤ length (now page)) ⌝ }
-    ensures { λ r. ⌜ Wrote (now (page .entry)) 0 (refusalLine n) r (now (page .exit)) ⌝ }
-{
-    let i = put_bytes(page, 0, b"refused ");
-    let j = put_decimal(page, i, n);
-    put_bytes(page, j, b"\n")
+    opening::open(file, image)
 }
 
 // Prints the line of a refusal on a page.
@@ -100,7 +46,7 @@ fn print_refusal(n: u32, next: usize, page: &mut [u8]) -> Printed
             more: true,
         };
     }
-    let bytes = put_refusal(page, n);
+    let bytes = printing::put_refusal(page, 0, n);
     Printed {
         bytes,
         next,
