@@ -1,36 +1,15 @@
 //! Runs the examples of docs/refusals.md, whose head says what an example means.
 
 use crate::calls::{Calls, State};
+use crate::model::forms::NAMES as GENERICS;
 use crate::model::machine::Machine;
 
 const PAGE: &str = include_str!("../../docs/refusals.md");
 
-/// The generics in the order of a configuration's words.
-const GENERICS: [&str; 19] = [
-    "IM_SIZE",
-    "REG_WIDTH",
-    "REG_SIZE",
-    "RM_SIZE",
-    "PC_STACK",
-    "DM_SIZE",
-    "DM_PIPE",
-    "ALU_LEVEL",
-    "ALU_MULT",
-    "ALU_SPR",
-    "IOP_IF",
-    "IOP_RMW",
-    "YAM_CLK",
-    "YAM_SREG3",
-    "ALU_3OP",
-    "IRQ_IF",
-    "COPM_SIZE",
-    "IM_WIDTH",
-    "YAM_DBG",
-];
-
 /// A line of the page's table.
 pub struct Line {
     pub number: u32,
+    pub meaning: String,
     pub calls: Vec<String>,
     /// None where the page says that there is none.
     pub example: Option<String>,
@@ -42,18 +21,25 @@ pub fn lines() -> Result<Vec<Line>, String> {
     for line in PAGE.lines() {
         let cells: Vec<&str> = line.split('|').map(str::trim).collect();
         let Some(number) = cells.get(1).and_then(|cell| cell.parse().ok()) else { continue };
-        let [_, _, _, calls, example, _] = cells[..] else { return Err(format!("docs/refusals.md: {line}")) };
+        let [_, _, meaning, calls, example, _] = cells[..] else { return Err(format!("docs/refusals.md: {line}")) };
         let code = example.strip_prefix('`').and_then(|rest| rest.strip_suffix('`'));
         if code.is_none() && !example.starts_with("none: ") {
             return Err(format!("docs/refusals.md: {number} has no example"));
         }
         lines.push(Line {
             number,
+            meaning: meaning.to_string(),
             calls: calls.split_whitespace().map(str::to_string).collect(),
             example: code.map(str::to_string),
         });
     }
     Ok(lines)
+}
+
+/// What a number means: "the meaning that docs/refusals.md has in the first line for N".
+pub fn meaning(number: u32) -> Result<String, String> {
+    let line = lines()?.into_iter().find(|line| line.number == number);
+    line.map(|line| line.meaning).ok_or(format!("docs/refusals.md: no line for {number}"))
 }
 
 fn value(text: &str) -> Result<u64, String> {

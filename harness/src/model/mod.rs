@@ -5,20 +5,25 @@
 //! `programs` had also read the design paper, README and docs/DECISIONS.md, so decisions on open points are shared with the definitions and
 //! not found a second time. The numbers of rows and the layouts of records are the library's, as include/yam.h gives them. Of `assemble`
 //! nothing is written down but that it is from document 02's words; it came with the assembler, in one landing. `programs`, and the order of
-//! 18 and 23 in `listing`, are by someone who had the repository, with definitions and programs, at hand. The plain C programs have the
+//! 18 and 23 in `listing`, are by someone who had the repository, with definitions and programs, at hand. `commands`, `forms`, `report` and
+//! `trace` are from docs/commands.md, by someone who had not read the crates. The plain C programs have the
 //! model's authors: that they agree with it tells little. Outside vectors are another reading.
 
 pub mod alu;
 pub mod assemble;
+pub mod commands;
 pub mod config;
+pub mod forms;
 pub mod image;
 pub mod listing;
 pub mod machine;
 pub mod programs;
+pub mod report;
 pub mod rows;
 pub mod sheet;
 pub mod step;
 pub mod text;
+pub mod trace;
 pub mod words;
 
 mod calls;

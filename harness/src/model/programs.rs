@@ -20,7 +20,8 @@ fn without_line(number: u32) -> Refusal {
     Refusal { number, line: 0 }
 }
 
-fn load(file: &[u8]) -> Result<(Config, Vec<u32>, Vec<u32>), u32> {
+/// An image file's configuration, its fields and its words; or the number of its refusal.
+pub fn load(file: &[u8]) -> Result<(Config, Vec<u32>, Vec<u32>), u32> {
     if file.len() > FILE_BYTES {
         return Err(2);
     }
