@@ -17,6 +17,7 @@ pub mod inputs;
 pub mod json;
 pub mod model;
 pub mod places;
+pub mod processes;
 pub mod programs;
 pub mod random;
 pub mod refusals;

@@ -86,6 +86,11 @@ fn entry(bytes: &[u8]) -> Option<(usize, u32)> {
     Some((place, value(&bytes[sign + 1..])?))
 }
 
+/// The default of a generic, by its place.
+pub fn default_of(place: usize) -> u32 {
+    DEFAULTS.iter().find(|(name, _)| *name == NAMES[place]).map_or(0, |&(_, value)| value)
+}
+
 /// The configuration of a text of entries "with one or more spaces or newlines between them".
 pub fn entries(text: &[u8]) -> Result<[u32; CONFIG_WORDS], Malformed> {
     if text.len() > ENTRIES_BYTES {
@@ -97,10 +102,9 @@ pub fn entries(text: &[u8]) -> Result<[u32; CONFIG_WORDS], Malformed> {
         let (place, value) = entry(part).filter(|&(place, _)| given[place].is_none()).ok_or(Malformed::Entry(number))?;
         given[place] = Some(value);
     }
-    let default = |name: &str| DEFAULTS.iter().find(|(other, _)| *other == name).map_or(0, |&(_, value)| value);
     let mut config = [0; CONFIG_WORDS];
-    for (place, name) in NAMES.iter().enumerate() {
-        config[place] = given[place].unwrap_or_else(|| default(name));
+    for place in 0..CONFIG_WORDS {
+        config[place] = given[place].unwrap_or(default_of(place));
     }
     Ok(config)
 }

@@ -1,31 +1,13 @@
-//! What the programs are given: files and sources that are whole, damaged, at an edge and at random.
+//! What the programs are given: image files and sources that are whole, damaged, at an edge and at random; and all cases together.
 
+use super::given::{Case, Given};
+use super::{certificates, packs, runs};
 use crate::generate::configs::{self, Size};
 use crate::generate::{files, sources, words};
 use crate::model::config::{Config, FIXED_FIELDS};
 use crate::model::image::{BLOCK_BYTES, HELD_WORDS};
 use crate::model::programs::{FILE_BYTES, SOURCE_BYTES, WORDS};
 use crate::random::Random;
-
-pub enum Case {
-    List { name: String, file: Vec<u8> },
-    Asm { name: String, config: Vec<u8>, source: Vec<u8> },
-}
-
-impl Case {
-    pub fn program(&self) -> &'static str {
-        match self {
-            Case::List { .. } => "yam_list",
-            Case::Asm { .. } => "yam_asm",
-        }
-    }
-
-    pub fn name(&self) -> &str {
-        match self {
-            Case::List { name, .. } | Case::Asm { name, .. } => name,
-        }
-    }
-}
 
 /// Every option on, W 32.
 pub fn config(im_size: usize) -> Vec<u32> {
@@ -35,7 +17,7 @@ pub fn config(im_size: usize) -> Vec<u32> {
 }
 
 /// The file of an image of so many words at random.
-fn file_of(r: &mut Random, im_size: usize) -> Vec<u8> {
+pub fn file_of(r: &mut Random, im_size: usize) -> Vec<u8> {
     let config = config(im_size);
     let c = Config::lawful_from_words(&config).expect("a lawful configuration");
     let image: Vec<u32> = (0..im_size).map(|_| words::any(r, &c)).collect();
@@ -110,7 +92,7 @@ fn line_at_end(length: usize, line: &str) -> Vec<u8> {
 }
 
 fn asm(name: String, config: &[u8], source: &[u8]) -> Case {
-    Case::Asm { name, config: config.to_vec(), source: source.to_vec() }
+    Case::new(name, Given::Asm { config: config.to_vec(), source: source.to_vec() })
 }
 
 /// Sources at the edges of what may be read.
@@ -152,13 +134,19 @@ pub fn all() -> Vec<Case> {
     let mut files = edge_files(r);
     files.extend(random_files(r, 150));
     let mut cases = Vec::new();
-    // A file that the configuration is taken from is loaded as one that is listed; too long a source behind it changes nothing of that.
-    for (number, (name, file)) in files.into_iter().enumerate() {
+    for (number, (name, image)) in files.into_iter().enumerate() {
+        // A file that the configuration is taken from is loaded as one that is listed; too long a source behind it changes nothing of that.
         let source = if number % 3 == 0 { vec![b'\n'; SOURCE_BYTES + 1] } else { b"loop: JMP loop\n".to_vec() };
-        cases.push(asm(format!("configuration: {name}"), &file, &source));
-        cases.push(Case::List { name, file });
+        cases.push(asm(format!("configuration: {name}"), &image, &source));
+        cases.push(certificates::of_image(&name, number, &image));
+        cases.push(runs::of_image(&name, number, &image));
+        cases.push(Case::new(&name, Given::Config { image: image.clone(), words: number % 2 == 0 }));
+        cases.push(Case::new(name, Given::List { image }));
     }
     cases.extend(edge_sources());
     cases.extend(random_sources(r, 250));
+    cases.extend(certificates::all(r));
+    cases.extend(runs::all(r));
+    cases.extend(packs::all(r));
     cases
 }
