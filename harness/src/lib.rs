@@ -3,6 +3,7 @@
 pub mod c_interface;
 pub mod calls;
 pub mod cases;
+pub mod commands;
 pub mod compare;
 pub mod demand;
 pub mod document;
@@ -34,6 +35,7 @@ pub mod texts;
 mod trials;
 pub mod vector_parts;
 pub mod vectors;
+pub mod walk;
 
 /// What is compared with the model: the library, or what stands in its place.
 #[cfg(any(feature = "library", feature = "plain"))]

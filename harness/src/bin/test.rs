@@ -1,15 +1,17 @@
 //! Compares the library with the model call by call.
 //!
-//! usage: test [--count N] [--seed S] [--vectors DIR] [--programs DIR] [--case SUBJECT:SEED]
+//! usage: test [--count N] [--seed S] [--vectors DIR] [--programs DIR] [--yam PATH] [--walk FILE] [--case SUBJECT:SEED]
 //!   --count    how many comparisons, at least (2,200,000)
 //!   --seed     where the cases start from (1)
 //!   --vectors  runs outside vectors as well, through the model and through the library
-//!   --programs runs the programs yam_list and yam_asm of that folder as well
+//!   --programs runs the programs of that folder as well, those of docs/commands.md
+//!   --yam      calls that ./yam as a user would
+//!   --walk     runs the commands that this document shows
 //!   --case     runs one case again, as a difference names it
 //!
 //! Exit status 1 on any difference, or where something that is counted was never met.
 
-use std::path::PathBuf;
+use std::path::{Path, PathBuf};
 use std::process::ExitCode;
 use yam_harness::calls::Calls;
 use yam_harness::cases::{Subject, SUBJECTS};
@@ -22,8 +24,8 @@ use yam_harness::seen::{Counts, Seen};
 #[cfg(any(feature = "library", feature = "plain"))]
 use yam_harness::stack;
 use yam_harness::{
-    document, document_bytes, document_index, document_targets, document_texts, programs, refusals, signatures, vectors, LIBRARY,
-    LIBRARY_NAME, SHOWN,
+    commands, document, document_bytes, document_index, document_targets, document_texts, programs, refusals, signatures,
+    vectors, walk, LIBRARY, LIBRARY_NAME, SHOWN,
 };
 
 /// How much of a difference is printed.
@@ -34,11 +36,13 @@ struct Options {
     seed: u64,
     vectors: Option<PathBuf>,
     programs: Option<PathBuf>,
+    yam: Option<PathBuf>,
+    walk: Option<PathBuf>,
     case: Option<(String, u64)>,
 }
 
 fn options() -> Result<Options, String> {
-    let mut options = Options { count: 2_200_000, seed: 1, vectors: None, programs: None, case: None };
+    let mut options = Options { count: 2_200_000, seed: 1, vectors: None, programs: None, yam: None, walk: None, case: None };
     let mut arguments = std::env::args().skip(1);
     while let Some(name) = arguments.next() {
         let value = arguments.next().ok_or(format!("{name} wants a value"))?;
@@ -47,12 +51,14 @@ fn options() -> Result<Options, String> {
             "--seed" => options.seed = number(&value)?,
             "--vectors" => options.vectors = Some(PathBuf::from(value)),
             "--programs" => options.programs = Some(PathBuf::from(value)),
+            "--yam" => options.yam = Some(PathBuf::from(value)),
+            "--walk" => options.walk = Some(PathBuf::from(value)),
             "--case" => {
                 let (subject, seed) = value.split_once(':').ok_or("a case is SUBJECT:SEED")?;
                 options.case = Some((subject.to_string(), number(seed)?));
             }
             _ => {
-                let known = "--count N, --seed S, --vectors DIR, --programs DIR, --case SUBJECT:SEED";
+                let known = "--count N, --seed S, --vectors DIR, --programs DIR, --yam PATH, --walk FILE, --case SUBJECT:SEED";
                 return Err(format!("{name} is no option: {known}"));
             }
         }
@@ -104,9 +110,18 @@ fn test(options: &Options) -> Result<bool, String> {
         Some(folder) => good &= programs::run(folder)?,
         None => println!("the programs were not given (--programs DIR): not run"),
     }
+    match &options.yam {
+        Some(yam) => good &= commands::run(yam)?,
+        None => println!("yam was not given (--yam PATH): not called"),
+    }
+    match &options.walk {
+        Some(document) => good &= walk::run(document, tree())?,
+        None => println!("no document was given (--walk FILE): none walked through"),
+    }
     let Some(library) = LIBRARY else {
         println!("the library was left out of this build: nothing is compared with the model");
-        return if options.vectors.is_some() { Ok(good) } else { Err("nothing was done".to_string()) };
+        let given = [&options.vectors, &options.programs, &options.yam, &options.walk];
+        return if given.iter().any(|path| path.is_some()) { Ok(good) } else { Err("nothing was done".to_string()) };
     };
     println!("the model beside the {LIBRARY_NAME}:");
     let mut pair = Pair::new(&Model, library);
@@ -159,6 +174,12 @@ fn test(options: &Options) -> Result<bool, String> {
     let met = options.case.is_some()
         || every_number_met(&pair.seen.numbers) & all_met(&pair.seen) & runs_met(&runs) & demand_met(&seen);
     Ok(good && met && differences.is_empty())
+}
+
+/// The tree's root, above the harness.
+fn tree() -> &'static Path {
+    let harness = Path::new(env!("CARGO_MANIFEST_DIR"));
+    harness.parent().unwrap_or(harness)
 }
 
 fn run_case(pair: &mut Pair, subject: &Subject, seed: u64) -> Result<(), String> {
@@ -310,7 +331,7 @@ fn refusals_name_calls() -> bool {
     right
 }
 
-fn run_vectors(name: &str, calls: &dyn Calls, folder: &std::path::Path) -> Result<bool, String> {
+fn run_vectors(name: &str, calls: &dyn Calls, folder: &Path) -> Result<bool, String> {
     let report = vectors::run(calls, folder)?;
     println!("vectors, {name}:");
     for (file, numbers) in &report.counts {

@@ -6,7 +6,7 @@ mod failing;
 pub mod given;
 mod packs;
 pub mod runs;
-mod seen;
+pub mod seen;
 #[cfg(test)]
 mod trials;
 

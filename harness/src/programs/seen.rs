@@ -73,7 +73,8 @@ fn possible() -> Vec<(&'static str, Vec<String>)> {
     ]
 }
 
-fn name_of(given: &Given, outcome: &Outcome) -> String {
+/// An outcome, in a word.
+pub fn name_of(given: &Given, outcome: &Outcome) -> String {
     match (given, outcome) {
         (_, Outcome::Passed) => "passes".to_string(),
         (_, Outcome::Refused { number, rule: None }) => refused(number),
