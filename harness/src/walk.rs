@@ -5,7 +5,7 @@
 //! stands at the root of the tree is reachable by its name.
 
 use crate::processes::{bytes_differ, wait, Scratch};
-use std::path::Path;
+use std::path::{Path, PathBuf};
 use std::process::{Command, Stdio};
 
 const FENCE: &str = "```";
@@ -102,11 +102,18 @@ fn walk(document: &str, tree: &Path) -> Result<(usize, Vec<String>), String> {
     Ok((blocks.iter().map(Vec::len).sum(), differences))
 }
 
-/// Runs the commands of a document of the tree. True where they print what it shows.
-pub fn run(document: &Path, tree: &Path) -> Result<bool, String> {
+/// The tree of a document: the nearest folder above it that has `yam`.
+fn tree_of(document: &Path) -> Result<PathBuf, String> {
+    let whole = document.canonicalize().map_err(|e| format!("{}: {e}", document.display()))?;
+    let tree = whole.ancestors().skip(1).find(|folder| folder.join("yam").is_file());
+    tree.map(Path::to_path_buf).ok_or(format!("{}: no folder above it has yam", document.display()))
+}
+
+/// Runs the commands of a document. True where they print what it shows.
+pub fn run(document: &Path) -> Result<bool, String> {
     let text = std::fs::read_to_string(document).map_err(|e| format!("{}: {e}", document.display()))?;
     let name = document.display();
-    let (commands, differences) = match walk(&text, tree) {
+    let (commands, differences) = match walk(&text, &tree_of(document)?) {
         Ok(walked) => walked,
         Err(how) => {
             println!("{name}: {how}");

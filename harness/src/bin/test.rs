@@ -115,7 +115,7 @@ fn test(options: &Options) -> Result<bool, String> {
         None => println!("yam was not given (--yam PATH): not called"),
     }
     match &options.walk {
-        Some(document) => good &= walk::run(document, tree())?,
+        Some(document) => good &= walk::run(document)?,
         None => println!("no document was given (--walk FILE): none walked through"),
     }
     let Some(library) = LIBRARY else {
@@ -174,12 +174,6 @@ fn test(options: &Options) -> Result<bool, String> {
     let met = options.case.is_some()
         || every_number_met(&pair.seen.numbers) & all_met(&pair.seen) & runs_met(&runs) & demand_met(&seen);
     Ok(good && met && differences.is_empty())
-}
-
-/// The tree's root, above the harness.
-fn tree() -> &'static Path {
-    let harness = Path::new(env!("CARGO_MANIFEST_DIR"));
-    harness.parent().unwrap_or(harness)
 }
 
 fn run_case(pair: &mut Pair, subject: &Subject, seed: u64) -> Result<(), String> {

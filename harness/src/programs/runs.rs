@@ -78,13 +78,19 @@ const UNREADABLE: [(&str, &str, [u32; 2]); 3] =
     [("5", W32, [0, 0x5800_0000]), ("6", "REG_SIZE=16 RM_SIZE=16", [0xa286_0010, 0x7000_0000]), ("7", W8, [0, 0x0000_0080])];
 
 /// Programs that change what a trace can name.
-const CHANGING: [(&str, &str, &str); 8] = [
+const CHANGING: [(&str, &str, &str); 9] = [
     // IMask 5, N and Z by RETWP from a context that was made by hand; a mask saved and taken back; a bank, a memory cell there.
     (
         "masks and banks",
         BANKS,
         "MOV %00,<0035\nADD %00,#0003\nRETWP\nSPR_ON\nMOV %01,%03\nMOV %06,%00\nSPR_OFF\nJSRWP 0008,020\nADD %05,#ffff,S\nMOV @%01,%05\n\
          MOV &0001,%00\nRETWP",
+    ),
+    // SPR_ON with one mask after another, and with the one that is saved already.
+    (
+        "masks saved again",
+        BANKS,
+        "MOV %00,<0003\nADD %00,#0003\nRETWP\nSPR_ON\nSPR_OFF\nSPR_ON\nSPR_OFF\nMOV %00,<000c\nADD %00,#000a\nRETWP\nSPR_ON\nMOV %02,%01\nSPR_OFF",
     ),
     ("banks that overlap", "REG_SIZE=32 RM_SIZE=64", "JSRWP 0001,010\nMOV %0f,#1234\nMOV %10,#5678\nJSRWP 0004,020\nADD %00,#0001,S\nRETWP"),
     (
