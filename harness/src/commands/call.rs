@@ -10,7 +10,7 @@ use std::thread;
 use std::time::{Duration, Instant};
 
 /// How long a call may take, and how often it is asked for its end.
-const LIMIT: Duration = Duration::from_secs(20);
+const LIMIT: Duration = Duration::from_secs(120);
 const PAUSE: Duration = Duration::from_millis(1);
 
 /// How a command is given one of its files.
@@ -191,15 +191,16 @@ fn within_limit(command: &mut Command, input: &[u8], fifo: Option<(PathBuf, &[u8
         if let Some(mut pipe) = stdin {
             scope.spawn(move || pieces(input).try_for_each(|piece| pipe.write_all(piece)));
         }
-        if let Some((path, bytes)) = &fifo {
-            scope.spawn(move || File::options().write(true).open(path).and_then(|mut file| file.write_all(bytes)));
-        }
+        let writer = fifo.as_ref().map(|(path, bytes)| {
+            scope.spawn(move || File::options().write(true).open(path).and_then(|mut file| file.write_all(bytes)))
+        });
         let output = scope.spawn(move || all_of(stdout));
         let error = scope.spawn(move || all_of(stderr));
         let status = wait_or_end(&mut child);
-        // A FIFO that was never read would keep its writer waiting.
-        if let Some((path, _)) = &fifo {
-            drop(File::options().read(true).write(true).open(path));
+        // A FIFO that was never read keeps its writer waiting until someone opens it.
+        while writer.as_ref().is_some_and(|writer| !writer.is_finished()) {
+            drop(fifo.as_ref().map(|(path, _)| File::options().read(true).write(true).open(path)));
+            thread::sleep(PAUSE);
         }
         let taken = |bytes: thread::ScopedJoinHandle<Vec<u8>>| bytes.join().map_err(|_| "a reader failed".to_string());
         Ok(Printed { output: taken(output)?, error: taken(error)?, status: status? })

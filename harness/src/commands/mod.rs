@@ -7,7 +7,9 @@ mod outputs;
 mod trials;
 mod wrong;
 
-use crate::programs::{cases, given::Given, seen};
+use crate::model::commands::{Mode, DEFAULT_STEPS};
+use crate::model::step::BUDGET_LIMIT;
+use crate::programs::{cases, given::Given, runs, seen};
 use call::{Argument, Call, How, Office, UNNAMED};
 use std::collections::BTreeMap;
 use std::path::Path;
@@ -80,12 +82,19 @@ fn outcomes() -> Result<Vec<Call>, String> {
     Ok(list)
 }
 
+/// As many steps as there may be, traced.
+fn longest() -> Result<Call, String> {
+    let image = runs::image("", "loop: ADD %00,#0001,S\nJMP loop,NZ");
+    let given = Given::Run { mode: Mode::Trace, image, steps: BUDGET_LIMIT.to_string(), inputs: None };
+    given::call("the longest trace", &given, None, How::Named)
+}
+
 /// `run` and `trace` without STEPS.
 fn without_steps() -> Result<Vec<Call>, String> {
     let mut list = Vec::new();
     for given in wrong::passing().into_iter().chain(wrong::refused()) {
         let Given::Run { mode, image, inputs, .. } = given else { continue };
-        let given = Given::Run { mode, image, inputs, steps: crate::model::commands::DEFAULT_STEPS.to_string() };
+        let given = Given::Run { mode, image, inputs, steps: DEFAULT_STEPS.to_string() };
         let mut call = given::call("no STEPS", &given, None, How::Named)?;
         call.arguments.pop();
         list.push(call);
@@ -99,6 +108,9 @@ fn run_calls(office: &Office, calls: &[Call], seen: &mut CallsSeen) -> Result<Ve
     for call in calls {
         let (printed, left) = office.make(call)?;
         seen.count(call, printed.status);
+        if printed.status.is_none() {
+            return Err(format!("{}: it did not end by itself", call.name));
+        }
         if let Some(how) = call.wanted.difference(&printed).or(left) {
             let shown: Vec<String> = call.arguments.iter().map(shown).collect();
             differences.push(format!("{} (yam {} {}): {how}", call.name, shown.join(" "), call.redirections));
@@ -124,7 +136,7 @@ pub fn run(yam: &Path) -> Result<bool, String> {
     let office = Office::new(yam)?;
     std::fs::create_dir_all(office.scratch.folder.join("folder")).map_err(|e| e.to_string())?;
     let mut seen = CallsSeen::default();
-    let lists = [ways()?, outcomes()?, without_steps()?, wrong::all()?, outputs::failing()?];
+    let lists = [vec![longest()?], ways()?, outcomes()?, without_steps()?, wrong::all()?, outputs::failing()?];
     let calls: Vec<Call> = lists.into_iter().flatten().collect();
     let mut differences = run_calls(&office, &calls, &mut seen)?;
     differences.extend(outputs::told(&office)?);

@@ -1,7 +1,9 @@
 //! Calls of `./yam` that go wrong before a program runs: usage, and files that cannot be read; and texts on the command line.
 
 use super::call::{Argument, Call, How, Text, Wanted};
-use super::given::{arguments, files, wanted};
+use super::given::{arguments, call, files, wanted};
+use crate::model::forms::{ENTRIES_BYTES, WORDS_BYTES};
+use crate::model::programs::FILE_BYTES;
 use crate::programs::given::{mode_name, Given};
 use crate::programs::runs::image;
 
@@ -154,18 +156,33 @@ fn unreadable(list: &mut Vec<Call>) {
     }
 }
 
+/// Longer than any file may be.
+const TOO_LONG: usize = 2_000_000;
+
 /// A device that never ends is read as far as a file may be long.
 fn endless(list: &mut Vec<Call>) -> Result<(), String> {
-    let too_long = vec![0; 2_000_000];
     for given in passing() {
         let whole = arguments(&given);
-        for place in files(&whole) {
-            let given =
-                with_file(&given, whole[..=place].iter().filter(|a| matches!(a, Argument::File(..))).count() - 1, &too_long);
+        for (number, place) in files(&whole).into_iter().enumerate() {
+            let given = with_file(&given, number, &vec![0; TOO_LONG]);
             let mut arguments = whole.clone();
             arguments[place] = Argument::Text("/dev/zero".to_string());
             let name = format!("{} with argument {place} without an end", given.program());
             list.push(Call { name, arguments, redirections: "", wanted: wanted(&given)? });
+        }
+    }
+    Ok(())
+}
+
+/// Empty files, and ones a byte longer than an image, a text or CONFIG may be.
+fn lengths(list: &mut Vec<Call>) -> Result<(), String> {
+    let texts = [vec![], vec![b' '; ENTRIES_BYTES + 1], vec![0; FILE_BYTES + 1], vec![b'\n'; WORDS_BYTES + 1]];
+    for (given, text) in passing().iter().flat_map(|given| texts.each_ref().map(|text| (given, text))) {
+        for (number, place) in files(&arguments(given)).into_iter().enumerate() {
+            let given = with_file(given, number, text);
+            for how in [How::Named, How::Input, How::InputPipe, How::Fifo] {
+                list.push(call(&format!("{} bytes as argument {place}", text.len()), &given, Some(place), how)?);
+            }
         }
     }
     Ok(())
@@ -233,6 +250,7 @@ pub fn all() -> Result<Vec<Call>, String> {
     unknown(&mut list);
     unreadable(&mut list);
     endless(&mut list)?;
+    lengths(&mut list)?;
     on_the_command_line(&mut list)?;
     Ok(list)
 }

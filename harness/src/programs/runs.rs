@@ -73,7 +73,7 @@ const STOPPED: [(&str, &str, &str); 17] = [
     ("27 from", W16, "ADD %00,#0001,S\nMOVX @%X+,@%00"),
 ];
 
-/// The words of the stops that no source gives, and of those that one could not be written for.
+/// Words that cannot be read, which no source gives.
 const UNREADABLE: [(&str, &str, [u32; 2]); 3] =
     [("5", W32, [0, 0x5800_0000]), ("6", "REG_SIZE=16 RM_SIZE=16", [0xa286_0010, 0x7000_0000]), ("7", W8, [0, 0x0000_0080])];
 
