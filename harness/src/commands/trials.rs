@@ -3,6 +3,7 @@
 use super::call::{How, Office};
 use super::{given, outputs, run_calls, wrong, Call, CallsSeen};
 use crate::processes::Scratch;
+use crate::refusals::meaning;
 use std::os::unix::fs::PermissionsExt;
 
 /// How many of the small calls find this script wrong in `yam`'s place.
@@ -27,7 +28,7 @@ fn refused() -> Vec<Call> {
 fn a_yam_that_says_nothing_or_everything_is_found() {
     let calls: Vec<Call> = [refused(), wrong::all().expect("calls")].into_iter().flatten().collect();
     for script in
-        ["exit 0", "exit 1", "exit 2", "echo refused 19; echo 'yam: refused 19: The length of the image file' >&2; exit 1"]
+        ["exit 0", "exit 1", "exit 2", "echo refused 19; echo 'yam: refused 19: The image file has the wrong length' >&2; exit 1"]
     {
         assert!(found(script, &calls) > calls.len() / 2, "{script}");
     }
@@ -37,7 +38,7 @@ fn a_yam_that_says_nothing_or_everything_is_found() {
 #[test]
 fn a_yam_that_is_wrong_in_one_thing_is_found() {
     let call = || vec![refused().swap_remove(0)];
-    let line = "The length of the image file";
+    let line = meaning(19).expect("a meaning");
     assert_eq!(found(&format!("echo refused 19; echo 'yam: refused 19: {line}' >&2; exit 1"), &call()), 0);
     for script in [
         format!("echo refused 19; echo 'yam: refused 19: {line}' >&2; exit 0"),
