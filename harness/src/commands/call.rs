@@ -166,8 +166,7 @@ impl Office {
 
     /// Whether a call left a file behind, where it was made or in the folder for temporary files.
     fn left_behind(&self) -> Result<Option<String>, String> {
-        let ours =
-            |name: &str| name.starts_with("file ") || name.starts_with("case ") || ["input", "fifo", "folder"].contains(&name);
+        let ours = |name: &str| name.starts_with("file ") || ["input", "fifo", "folder"].contains(&name);
         for folder in [&self.scratch.folder, &self.temporary.folder] {
             for entry in std::fs::read_dir(folder).map_err(|e| format!("{}: {e}", folder.display()))? {
                 let path = entry.map_err(|e| e.to_string())?.path();

@@ -17,6 +17,9 @@ use std::path::Path;
 /// How many of the programs' cases of each outcome are called through `./yam`.
 const OF_EACH: u32 = 3;
 
+/// How many calls that do not end by themselves are waited for.
+const ENDLESS: u32 = 3;
+
 /// The commands, and the statuses that each must have been met with.
 const COMMANDS: [&str; 7] = ["list", "asm", "check", "run", "trace", "pack", "config"];
 const STATUSES: [i32; 4] = [0, 1, 2, 3];
@@ -104,16 +107,18 @@ fn without_steps() -> Result<Vec<Call>, String> {
 
 /// How calls came to something else than they should.
 fn run_calls(office: &Office, calls: &[Call], seen: &mut CallsSeen) -> Result<Vec<String>, String> {
-    let mut differences = Vec::new();
+    let (mut differences, mut endless) = (Vec::new(), 0);
     for call in calls {
         let (printed, left) = office.make(call)?;
         seen.count(call, printed.status);
-        if printed.status.is_none() {
-            return Err(format!("{}: it did not end by itself", call.name));
-        }
+        endless += u32::from(printed.status.is_none());
         if let Some(how) = call.wanted.difference(&printed).or(left) {
             let shown: Vec<String> = call.arguments.iter().map(shown).collect();
             differences.push(format!("{} (yam {} {}): {how}", call.name, shown.join(" "), call.redirections));
+        }
+        if endless == ENDLESS {
+            differences.push(format!("after {ENDLESS} calls that did not end by themselves no more were made"));
+            break;
         }
     }
     Ok(differences)

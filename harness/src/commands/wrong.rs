@@ -92,7 +92,9 @@ fn steps(list: &mut Vec<Call>) {
         for text in NO_STEPS {
             let mut arguments = arguments(&given);
             *arguments.last_mut().expect("STEPS") = Argument::Text(text.to_string());
-            list.push(usage(format!("{} with STEPS {text:?}", mode_name(mode)), arguments));
+            let mut call = usage(format!("{} with STEPS {text:?}", mode_name(mode)), arguments);
+            call.wanted.error = Text::With(vec!["STEPS".to_string()]);
+            list.push(call);
         }
     }
 }
@@ -135,10 +137,6 @@ fn unreadable(list: &mut Vec<Call>) {
     for given in passing() {
         let whole = arguments(&given);
         for (place, name) in files(&whole).into_iter().flat_map(|place| UNREADABLE.map(|name| (place, name))) {
-            // Whether an option with an empty value is usage, docs/commands.md does not say.
-            if name.is_empty() && matches!(&whole[place - 1], Argument::Text(option) if option == "--inputs") {
-                continue;
-            }
             let mut arguments = whole.clone();
             arguments[place] = Argument::Text(name.to_string());
             let wanted = Wanted { status: 3, output: Text::nothing(), error: Text::With(vec![name.to_string()]) };

@@ -6,8 +6,8 @@
 //! not found a second time. The numbers of rows and the layouts of records are the library's, as include/yam.h gives them. Of `assemble`
 //! nothing is written down but that it is from document 02's words; it came with the assembler, in one landing. `programs`, and the order of
 //! 18 and 23 in `listing`, are by someone who had the repository, with definitions and programs, at hand. `commands`, `forms`, `report` and
-//! `trace` are from docs/commands.md, by someone who had not read the crates. The plain C programs have the
-//! model's authors: that they agree with it tells little. Outside vectors are another reading.
+//! `trace` are from docs/commands.md, by someone who had opened no file of the crates, before the programs were there. The plain C programs
+//! have the model's authors: that they agree with it tells little. Outside vectors are another reading.
 
 pub mod alu;
 pub mod assemble;
