@@ -5,13 +5,15 @@ mod certificates;
 mod failing;
 pub mod given;
 mod packs;
+mod replay;
 pub mod runs;
 pub mod seen;
 #[cfg(test)]
 mod trials;
 
+use crate::model::commands::Mode;
 use crate::processes::{bytes_differ, Printed, Scratch, Way};
-use given::Given;
+use given::{Given, Outcome};
 use seen::ProgramsSeen;
 use std::path::{Path, PathBuf};
 use std::process::Command;
@@ -50,6 +52,13 @@ impl Place {
     }
 }
 
+/// How a trace does not come to its own report.
+fn not_replayed(given: &Given, printed: &Printed) -> Option<String> {
+    let Given::Run { mode: Mode::Trace, .. } = given else { return None };
+    let Outcome::Ended(_) = given.outcome(&printed.output) else { return None };
+    replay::difference(&String::from_utf8_lossy(&printed.output))
+}
+
 /// Runs every case in both ways.
 fn run_cases(place: &Place, seen: &mut ProgramsSeen) -> Result<Vec<String>, String> {
     let mut differences = Vec::new();
@@ -58,7 +67,7 @@ fn run_cases(place: &Place, seen: &mut ProgramsSeen) -> Result<Vec<String>, Stri
         for way in [Way::File, Way::Pipe] {
             let printed = place.printed(&case.given, way)?;
             seen.count(&case.given, &printed.output);
-            if let Some(how) = difference(&printed, &wanted) {
+            if let Some(how) = difference(&printed, &wanted).or_else(|| not_replayed(&case.given, &printed)) {
                 let kept = place.keep(&case.given, differences.len())?;
                 differences.push(format!("{}, {} ({way:?}, {kept}): {how}", case.given.program(), case.name));
             }
