@@ -108,16 +108,16 @@ impl Wanted {
 }
 
 /// Where `./yam` is, a folder to call it in, and one for what it may put down meanwhile.
-pub struct Office {
+pub struct Caller {
     pub yam: PathBuf,
     pub scratch: Scratch,
     pub temporary: Scratch,
 }
 
-impl Office {
-    pub fn new(yam: &Path) -> Result<Office, String> {
+impl Caller {
+    pub fn new(yam: &Path) -> Result<Caller, String> {
         let yam = yam.canonicalize().map_err(|e| format!("{}: {e}", yam.display()))?;
-        Ok(Office { yam, scratch: Scratch::new()?, temporary: Scratch::new()? })
+        Ok(Caller { yam, scratch: Scratch::new()?, temporary: Scratch::new()? })
     }
 
     /// What a call prints; with whatever is wrong with it beside that.

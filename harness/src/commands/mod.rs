@@ -10,7 +10,7 @@ mod wrong;
 use crate::model::commands::{Mode, DEFAULT_STEPS};
 use crate::model::step::BUDGET_LIMIT;
 use crate::programs::{cases, given::Given, runs, seen};
-use call::{Argument, Call, How, Office, UNNAMED};
+use call::{Argument, Call, Caller, How, UNNAMED};
 use std::collections::BTreeMap;
 use std::path::Path;
 
@@ -106,10 +106,10 @@ fn without_steps() -> Result<Vec<Call>, String> {
 }
 
 /// How calls came to something else than they should.
-fn run_calls(office: &Office, calls: &[Call], seen: &mut CallsSeen) -> Result<Vec<String>, String> {
+fn run_calls(caller: &Caller, calls: &[Call], seen: &mut CallsSeen) -> Result<Vec<String>, String> {
     let (mut differences, mut endless) = (Vec::new(), 0);
     for call in calls {
-        let (printed, left) = office.make(call)?;
+        let (printed, left) = caller.make(call)?;
         seen.count(call, printed.status);
         endless += u32::from(printed.status.is_none());
         if let Some(how) = call.wanted.difference(&printed).or(left) {
@@ -138,14 +138,14 @@ fn shown(argument: &Argument) -> String {
 
 /// Tests a `./yam`. True where every call comes to what docs/commands.md says.
 pub fn run(yam: &Path) -> Result<bool, String> {
-    let office = Office::new(yam)?;
-    std::fs::create_dir_all(office.scratch.folder.join("folder")).map_err(|e| e.to_string())?;
+    let caller = Caller::new(yam)?;
+    std::fs::create_dir_all(caller.scratch.folder.join("folder")).map_err(|e| e.to_string())?;
     let mut seen = CallsSeen::default();
     let lists = [vec![longest()?], ways()?, outcomes()?, without_steps()?, wrong::all()?, outputs::failing()?];
     let calls: Vec<Call> = lists.into_iter().flatten().collect();
-    let mut differences = run_calls(&office, &calls, &mut seen)?;
-    differences.extend(outputs::told(&office)?);
-    differences.extend(outputs::packed_again(&office)?);
+    let mut differences = run_calls(&caller, &calls, &mut seen)?;
+    differences.extend(outputs::told(&caller)?);
+    differences.extend(outputs::packed_again(&caller)?);
     println!("{} calls of yam beside the model:", calls.len());
     seen.print();
     let unmet = seen.unmet();
@@ -156,7 +156,7 @@ pub fn run(yam: &Path) -> Result<bool, String> {
         println!("differs: {difference}");
     }
     println!("{} differences, {} not met", differences.len(), unmet.len());
-    office.scratch.remove();
-    office.temporary.remove();
+    caller.scratch.remove();
+    caller.temporary.remove();
     Ok(unmet.is_empty() && differences.is_empty())
 }

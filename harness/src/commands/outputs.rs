@@ -1,6 +1,6 @@
 //! Calls of `./yam` whose output cannot be written, its help and its version, and what is packed again.
 
-use super::call::{Argument, Call, How, Office, Text, Wanted};
+use super::call::{Argument, Call, Caller, How, Text, Wanted};
 use super::given::{arguments, wanted};
 use super::wrong::{passing, refused};
 use crate::programs::given::Given;
@@ -50,12 +50,12 @@ fn status_0(arguments: &[&str]) -> Call {
 }
 
 /// How help, --help and --version are not as they should be.
-pub fn told(office: &Office) -> Result<Vec<String>, String> {
+pub fn told(caller: &Caller) -> Result<Vec<String>, String> {
     let mut differences = Vec::new();
     let mut printed = Vec::new();
     for arguments in [["help"], ["--help"], ["--version"]] {
         let call = status_0(&arguments);
-        let (said, left) = office.make(&call)?;
+        let (said, left) = caller.make(&call)?;
         differences.extend(call.wanted.difference(&said).or(left).map(|how| format!("{}: {how}", call.name)));
         printed.push(String::from_utf8_lossy(&said.output).into_owned());
     }
@@ -65,7 +65,7 @@ pub fn told(office: &Office) -> Result<Vec<String>, String> {
     }
     let missing = COMMANDS.iter().filter(|command| !has_example(help, command));
     differences.extend(missing.map(|command| format!("help: no example of {command}: {help:?}")));
-    for identity in identities(office) {
+    for identity in identities(caller) {
         if !version.contains(&identity) {
             differences.push(format!("--version: {version:?} does not say {identity:?}"));
         }
@@ -74,9 +74,9 @@ pub fn told(office: &Office) -> Result<Vec<String>, String> {
 }
 
 /// The first letters of the commit, and the toolchain's name for itself, where the machine can tell them.
-fn identities(office: &Office) -> Vec<String> {
+fn identities(caller: &Caller) -> Vec<String> {
     let line = |program: &str, arguments: &[&str]| {
-        let output = Command::new(program).args(arguments).current_dir(office.yam.parent()?).output().ok()?;
+        let output = Command::new(program).args(arguments).current_dir(caller.yam.parent()?).output().ok()?;
         let text = String::from_utf8_lossy(&output.stdout).trim().to_string();
         (output.status.success() && !text.is_empty()).then_some(text)
     };
@@ -84,7 +84,7 @@ fn identities(office: &Office) -> Vec<String> {
 }
 
 /// "Packed again, the two give the same file": how they do not.
-pub fn packed_again(office: &Office) -> Result<Vec<String>, String> {
+pub fn packed_again(caller: &Caller) -> Result<Vec<String>, String> {
     let banks = "REG_SIZE=128 RM_SIZE=1024 PC_STACK=64 DM_SIZE=32768 DM_PIPE=2 ALU_LEVEL=2 YAM_CLK=1023 YAM_SREG3=65535";
     let files = [
         image("", "RET"),
@@ -96,14 +96,14 @@ pub fn packed_again(office: &Office) -> Result<Vec<String>, String> {
         let back = |words: bool| -> Result<Vec<u8>, String> {
             let given = Given::Config { image: file.clone(), words };
             let call = Call { name: String::new(), arguments: arguments(&given), redirections: "", wanted: wanted(&given)? };
-            Ok(office.make(&call)?.0.output)
+            Ok(caller.make(&call)?.0.output)
         };
         let (config, words) = (back(false)?, back(true)?);
         let arguments =
             vec![Argument::Text("pack".to_string()), Argument::File(config, How::Named), Argument::File(words, How::InputPipe)];
         let wanted = Wanted { status: 0, output: Text::Exactly(file.clone()), error: Text::nothing() };
         let call = Call { name: format!("file {number} packed again"), arguments, redirections: "", wanted };
-        let (printed, left) = office.make(&call)?;
+        let (printed, left) = caller.make(&call)?;
         differences.extend(call.wanted.difference(&printed).or(left).map(|how| format!("{}: {how}", call.name)));
     }
     Ok(differences)

@@ -1,6 +1,6 @@
 //! Trials of the calls: a `yam` that is wrong on purpose must be found.
 
-use super::call::{How, Office};
+use super::call::{Caller, How};
 use super::{given, outputs, run_calls, wrong, Call, CallsSeen};
 use crate::processes::Scratch;
 use crate::refusals::meaning;
@@ -11,9 +11,9 @@ fn found(script: &str, calls: &[Call]) -> usize {
     let scratch = Scratch::new().expect("a folder");
     let yam = scratch.file("yam", format!("#!/bin/sh\n{script}\n").as_bytes()).expect("a file");
     std::fs::set_permissions(&yam, std::fs::Permissions::from_mode(0o755)).expect("a run bit");
-    let office = Office::new(&yam).expect("two folders");
-    let differences = run_calls(&office, calls, &mut CallsSeen::default()).expect("the calls are made");
-    for folder in [&office.scratch, &office.temporary, &scratch] {
+    let caller = Caller::new(&yam).expect("two folders");
+    let differences = run_calls(&caller, calls, &mut CallsSeen::default()).expect("the calls are made");
+    for folder in [&caller.scratch, &caller.temporary, &scratch] {
         folder.remove();
     }
     differences.len()
