@@ -80,7 +80,7 @@ fn identities(caller: &Caller) -> Vec<String> {
         let text = String::from_utf8_lossy(&output.stdout).trim().to_string();
         (output.status.success() && !text.is_empty()).then_some(text)
     };
-    [line("git", &["rev-parse", "--short=7", "HEAD"]), line("rt", &["--version"])].into_iter().flatten().collect()
+    [line("git", &["rev-parse", "--short=7", "HEAD"]), line("rt", &["version"])].into_iter().flatten().collect()
 }
 
 /// "Packed again, the two give the same file": how they do not.
