@@ -172,7 +172,7 @@ impl Caller {
                 let path = entry.map_err(|e| e.to_string())?.path();
                 let name = path.file_name().unwrap_or_default().to_string_lossy().into_owned();
                 if !ours(&name) {
-                    let _ = std::fs::remove_file(&path);
+                    let _ = std::fs::remove_file(&path).or_else(|_| std::fs::remove_dir_all(&path));
                     return Ok(Some(format!("it leaves {} behind", path.display())));
                 }
             }

@@ -117,7 +117,7 @@ fn run_calls(caller: &Caller, calls: &[Call], seen: &mut CallsSeen) -> Result<Ve
             differences.push(format!("{} (yam {} {}): {how}", call.name, shown.join(" "), call.redirections));
         }
         if endless == ENDLESS {
-            differences.push(format!("after {ENDLESS} calls that did not end by themselves no more were made"));
+            differences.insert(0, format!("after {ENDLESS} calls that did not end by themselves no more were made"));
             break;
         }
     }
