@@ -209,3 +209,22 @@ class Misuse(unittest.TestCase):
         with self.assertRaises(AttributeError):
             machine.log = []
         self.assertEqual(state_of(machine), state_of(yam.Machine(SIX)))
+
+
+class RecordValues(unittest.TestCase):
+    """The record as a value."""
+
+    def test_record(self):
+        machine = yam.Machine(SIX)
+        reset = machine.record
+        machine.run(11)
+        ran = yam.Record(5, 0, 5, 4, 0, 1, 0, 15, 15, 0, 0, 0, 1, 0, 0, ())
+        self.assertEqual((reset.pc, reset.imask, reset.loaded), (0, 15, 0))
+        self.assertEqual(machine.record, ran)
+        with self.assertRaises(AttributeError):
+            ran.pc = 0
+
+    def test_stack(self):
+        machine = yam.Machine(image_of(FULL, 0xF0800001, 0xC0000001))
+        machine.step()
+        self.assertEqual((machine.record.pc, machine.record.stack), (1, (1,)))

@@ -20,6 +20,7 @@ from .config import Config
 from .image import Image, assemble, check, listing
 from .instruction import Instruction, text
 from .machine import Machine, Ran
+from .record import Record
 from .refusals import Refusal
 from .refused import Refused
 from .rows import Row
@@ -33,6 +34,7 @@ __all__ = [
     "Instruction",
     "Machine",
     "Ran",
+    "Record",
     "Refusal",
     "Refused",
     "Row",

@@ -4,12 +4,14 @@ from __future__ import annotations
 
 import ctypes
 import operator
+from dataclasses import fields
 from typing import Any, Iterable, Iterator, List, NamedTuple, Optional, Tuple, Union, overload
 
 from . import raw
 from .cells import Cells
 from .config import Config, config_list, must_be_lawful
 from .image import Image, image_list, listed
+from .record import Record
 from .refused import Refused
 from .steps import Step, steps_of
 from ._library import LIBRARY
@@ -173,6 +175,11 @@ class Machine:
         zeros = [0] * (raw.STACK_PLACES - len(given))
         self._record[raw.STACK : raw.STACK + raw.STACK_PLACES] = given + zeros
         self._record[raw.DEPTH] = len(given)
+
+    @property
+    def record(self) -> Record:
+        """The record as a value, which the next step does not change."""
+        return Record(**{field.name: getattr(self, field.name) for field in fields(Record)})
 
     def reset(self) -> None:
         """Puts the record back to reset; the memories stay, the log and the inputs start again."""
