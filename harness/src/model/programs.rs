@@ -7,10 +7,10 @@ use super::{image, listing};
 /// "The programs hold 8,192 words; past 34,304 bytes of input they print the line "refused 2"".
 pub const WORDS: usize = 8_192;
 pub const FILE_BYTES: usize = 34_304;
-/// README: "a source above 1,048,576 bytes, is `refused 2`".
+/// docs/commands.md: "A source above 1,048,576 bytes is `refused 2`".
 pub const SOURCE_BYTES: usize = 1_048_576;
 
-/// "on any other refusal "refused", a space and its number"; README: "a line such as `refused 26 line 3`".
+/// "on any other refusal "refused", a space and its number"; docs/commands.md: "A refusal of a line is `refused N line L`".
 fn refused(refusal: Refusal) -> Vec<u8> {
     let line = if refusal.line == 0 { String::new() } else { format!(" line {}", refusal.line) };
     format!("refused {}{line}\n", refusal.number).into_bytes()
