@@ -10,7 +10,7 @@ ghost use Rattle.report.specs.Trace.{traceLine};
 ghost use Rattle.state.specs.Run.{runCall};
 ghost use Rattle.state.specs.State.{env, resetMachine};
 ghost use Rattle.yam_run.specs.Running.{endText, Traces};
-ghost use Rattle.yam_run.specs.Tracing.{TracesJoin};
+ghost use Rattle.yam_run.specs.Tracing.{TracesJoin, TraceAsRun};
 use files::read_all;
 use files::read_file;
 use machine::Ran;
@@ -182,7 +182,7 @@ fn trace_step(
     page: &mut [u8],
 ) -> Traced
     requires { ⌜ (length (now oldregisters) ≡ length (now registers)) × (length (now oldmemory) ≡ length (now memory)) ⌝ }
-    ensures { λ r. ⌜ Traces c (now (image .entry)) (now (inputs .entry)) (machineState m (now (registers .entry)) (now (memory .entry)) (now (addresses .entry)) (now (values .entry))) step cycles (now (page .entry)) r (machineState (r .machine) (now (registers .exit)) (now (memory .exit)) (now (addresses .exit)) (now (values .exit))) (now (page .exit)) × TracesJoin ⌝ }
+    ensures { λ r. ⌜ Traces c (now (image .entry)) (now (inputs .entry)) (machineState m (now (registers .entry)) (now (memory .entry)) (now (addresses .entry)) (now (values .entry))) step cycles (now (page .entry)) r (machineState (r .machine) (now (registers .exit)) (now (memory .exit)) (now (addresses .exit)) (now (values .exit))) (now (page .exit)) × TracesJoin × TraceAsRun ⌝ }
 {
     copy(registers, oldregisters);
     copy(memory, oldmemory);
