@@ -9,7 +9,7 @@ use Rattle.state.specs.Step.{Outcome}
 use Rattle.machine.specs.Stepping.{End}
 use Rattle.machine.specs.Claims.{Steps, Runs}
 use Rattle.rules.specs.Check.{checkOf, passed}
-use Rattle.rules.specs.Calls.{Call, step, run, callOf}
+use Rattle.state.specs.Calls.{Call, step, run, callOf}
 use Rattle.rules.specs.Demand.{May, FromReset}
 
 -- a public call that was made, with what it answered and left

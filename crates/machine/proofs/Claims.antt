@@ -8,6 +8,7 @@ use Rattle.state.specs.Run.{ended, runCall}
 use Rattle.state.proofs.Unchanged as unchanged
 use Rattle.state.proofs.StaysValid.{step-valid}
 use Rattle.state.proofs.Leaving.{leaves-image}
+use Rattle.state.proofs.ComesBack.{comes-back, goes-by-zero, goes-along}
 use Rattle.state.proofs.Loaded.{remembers}
 use Rattle.state.proofs.Run.{run-cycles}
 use Rattle.state.proofs.Calls.{run-by-steps, run-splits}
@@ -22,12 +23,24 @@ steps e s o q =
       cells-stay = unchanged.cells-stay;
       stays-valid = step-valid;
       leaves-image = leaves-image;
+      comes-back = comes-back;
+      goes-by-zero = goes-by-zero;
+      goes-along = goes-along;
       remembers = remembers;
     }
 
 pub runs : (budget : ℕ) (e : Env) (s : State) (x : End) → x ≡ endOf (runCall budget e s) → Runs budget e s x
 runs budget e s x q =
-    record { answer = q; by-steps = run-by-steps; splits = run-splits; cycles = run-cycles; remembers = remembers }
+    record {
+      answer = q;
+      by-steps = run-by-steps;
+      splits = run-splits;
+      cycles = run-cycles;
+      comes-back = comes-back;
+      goes-by-zero = goes-by-zero;
+      goes-along = goes-along;
+      remembers = remembers;
+    }
 
 -- on a lent return stack, by its length
 

@@ -6,6 +6,7 @@ use Rattle.state.specs.State.{Env, State}
 use Rattle.state.specs.Step.{Outcome, refused, stepOf}
 use Rattle.state.specs.Run.{ended, runCall}
 use Rattle.state.specs.Claims.{RefusedStays, CellsStay, StepValid, LeavesImage, RunBySteps, RunSplits, RunCycles}
+use Rattle.state.specs.ComesBack.{ComesBack, GoesByZero, GoesAlong}
 use Rattle.state.specs.Loaded.{Remembers}
 use Rattle.machine.specs.Stepping.{End, endOf}
 
@@ -16,6 +17,9 @@ pub record Steps (e : Env) (s : State) (o : Outcome) : Type 0 where
   pub cells-stay : CellsStay
   pub stays-valid : StepValid
   pub leaves-image : LeavesImage
+  pub comes-back : ComesBack
+  pub goes-by-zero : GoesByZero
+  pub goes-along : GoesAlong
   pub remembers : Remembers
 
 -- `step_lent` does the same where the lent return stack is 63 cells long; else it answers 2 and leaves all as it was
@@ -29,6 +33,9 @@ pub record Runs (budget : ℕ) (e : Env) (s : State) (x : End) : Type 0 where
   pub by-steps : RunBySteps
   pub splits : RunSplits
   pub cycles : RunCycles
+  pub comes-back : ComesBack
+  pub goes-by-zero : GoesByZero
+  pub goes-along : GoesAlong
   pub remembers : Remembers
 
 -- and so does `run_lent`

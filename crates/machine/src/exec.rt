@@ -4,7 +4,7 @@ ghost use Prim.Native.Nat.{_+_, _≤_, _<_};
 ghost use lib.ListN.{getD, length};
 ghost use Rattle.state.specs.State.{stackLimit};
 ghost use Rattle.state.specs.Operands.{view};
-ghost use Rattle.state.specs.Plans.{contextOf};
+ghost use Rattle.state.specs.Context.{contextOf};
 ghost use Rattle.cells.specs.Cell.{destinationIn, sourceIn, valueIn};
 ghost use Rattle.plans.specs.Values.{operands};
 ghost use Rattle.machine.specs.Exec.{Fit, Placed, Acts};

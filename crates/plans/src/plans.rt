@@ -11,6 +11,7 @@ ghost use Rattle.arith.specs.Width.{one as flag};
 ghost use Rattle.arith.specs.Alu.{Within};
 ghost use Rattle.state.specs.State.{top};
 ghost use Rattle.state.specs.Cores.{posting, flagged, indexed, multiplied, deep, masked, banked, taking, logging, off, write, change, stopped, moved, toRegister, toMemory, toStack, toLog};
+ghost use Rattle.state.specs.Context.{wpIn, nIn, zIn, maskIn, addressIn};
 ghost use Rattle.state.specs.Operands.{dataAddress};
 ghost use Rattle.state.specs.Plans.{product, withTopBit};
 ghost use Rattle.plans.specs.Values.{up, went, onward, further, computed, compared, takenAt};
@@ -292,7 +293,7 @@ pub fn enter_bank(c: Config, m: Core, unit: u32, p: u32, x: u32) -> Change
 
 // RETWP: x is %00 of the active bank.
 pub fn leave_bank(c: Config, m: Core, x: u32) -> Change
-    ensures { λ r. ⌜ r ≡ choice (leb (16 * (x / 0x4000000) + c .regsize) (c .rmsize)) (moved (masked (flagged (banked (went m (x % 65536)) (16 * (x / 0x4000000))) 0 (x / 0x100000 % 2) (x / 0x200000 % 2)) (x / 65536 % 16) (m .saved) (m .mode))) (stopped m 12) ⌝ }
+    ensures { λ r. ⌜ r ≡ choice (leb (wpIn x + c .regsize) (c .rmsize)) (moved (masked (flagged (banked (went m (addressIn x)) (wpIn x)) 0 (zIn x) (nIn x)) (maskIn x) (m .saved) (m .mode))) (stopped m 12) ⌝ }
 {
     let w = 16 * ((x / context::BANK) as usize);
     if w + (c.regsize as usize) <= c.rmsize as usize {

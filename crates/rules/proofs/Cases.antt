@@ -17,7 +17,8 @@ use Rattle.state.specs.Plans.{jumpPlan, branchPlan, callPlan, retPlan, enterSpe
 use Rattle.state.specs.Stops.{stops9to15, stops}
 use Rattle.state.specs.Step.{number, putOf, applied, planAt, cyclesOf, advanceOf, stepOf}
 use Rattle.state.specs.Run.{runOf, runCall}
-use Rattle.rules.specs.Calls.{callOf, trace}
+use Rattle.state.specs.Calls.{callOf}
+use Rattle.rules.specs.Calls.{trace}
 use Rattle.rules.specs.Successors.{successors}
 use Rattle.rules.specs.Rules.{rules}
 use Rattle.rules.specs.Check.{firstBroken, checkOf}

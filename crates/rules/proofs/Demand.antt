@@ -18,7 +18,8 @@ use Rattle.state.specs.Good.{Good}
 use Rattle.state.proofs.Ranges.{bounds, top-byte, good, valid, passes}
 use Rattle.rules.specs.Marks.{markAt, levelOf}
 use Rattle.rules.specs.Check.{checkOf, passed, Passes}
-use Rattle.rules.specs.Calls.{Call, step, run, Done, callOf, trace}
+use Rattle.state.specs.Calls.{Call, step, run, Done, callOf}
+use Rattle.rules.specs.Calls.{trace}
 use Rattle.rules.specs.Demand.{May, no-data, no-input, no-room, not-loaded, too-long, Fine, atReset, Demand3}
 use Rattle.rules.specs.Demand as demand
 use Rattle.rules.specs.Invariant.{Invariant}

@@ -17,7 +17,8 @@ use Rattle.arith.specs.Alu.{aluOf}
 use Rattle.state.specs.State.{stackLimit}
 use Rattle.state.specs.Ranges.{inRanges, guards}
 use Rattle.state.specs.Operands.{operand}
-use Rattle.state.specs.Plans.{advanced, computePlan, multiplyPlan, loadIndexPlan, indexStorePlan, indexLoadPlan, loadRegisterPlan, contextOf, enterBankPlan, planOf}
+use Rattle.state.specs.Context.{contextOf}
+use Rattle.state.specs.Plans.{advanced, computePlan, multiplyPlan, loadIndexPlan, indexStorePlan, indexLoadPlan, loadRegisterPlan, enterBankPlan, planOf}
 use Rattle.state.specs.Stops.{stops9to15, stops}
 use Rattle.state.specs.Step.{number, putOf, applied, planAt, cyclesOf, advanceOf, stepOf}
 use Rattle.starred.specs.Cases.{StarredCases}

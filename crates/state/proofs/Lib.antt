@@ -11,3 +11,4 @@ pub mod Leaving
 pub mod Loaded
 pub mod Calls
 pub mod Lengths
+pub mod ComesBack

@@ -28,7 +28,8 @@ use Rattle.state.specs.declared.Write.{Write}
 use Rattle.state.specs.State.{Env, State, top, stackLimit}
 use Rattle.state.specs.Cores.{at, flagged, off, write, change, moved, toRegister, toMemory}
 use Rattle.state.specs.Operands.{View, viewOf, cell, register, dataAddress, constant, conditionMet, specialRegister}
-use Rattle.state.specs.Plans.{advanced, contextOf, registerTarget, D, S, X, M, result, comparePlan, computePlan, multiplyPlan, loadIndexPlan, indexCore, indexStorePlan, indexLoadPlan, movePlan, loadConstantPlan, loadRegisterPlan, loadDirectPlan, storeRegisterPlan, storeDirectPlan, portReadPlan, portWritePlan, portModifyPlan, jumpPlan, branched, branchPlan, jumpRegisterPlan, branchRegisterPlan, called, callPlan, callRegisterPlan, newest, returned, retPlan, retConstantPlan, enterBankPlan, leaveBankPlan, enterSpecialPlan, leaveSpecialPlan, planOf}
+use Rattle.state.specs.Context.{contextOf, wpIn}
+use Rattle.state.specs.Plans.{advanced, registerTarget, D, S, X, M, result, comparePlan, computePlan, multiplyPlan, loadIndexPlan, indexCore, indexStorePlan, indexLoadPlan, movePlan, loadConstantPlan, loadRegisterPlan, loadDirectPlan, storeRegisterPlan, storeDirectPlan, portReadPlan, portWritePlan, portModifyPlan, jumpPlan, branched, branchPlan, jumpRegisterPlan, branchRegisterPlan, called, callPlan, callRegisterPlan, newest, returned, retPlan, retConstantPlan, enterBankPlan, leaveBankPlan, enterSpecialPlan, leaveSpecialPlan, planOf}
 use Rattle.state.specs.Stops.{partsAt, kindAt}
 use Rattle.state.specs.Step.{putOf, planAt}
 use Rattle.state.specs.Good.{Indices, InBank, Posted, Ranged, Good}
@@ -314,12 +315,12 @@ module _ (e : Env) (s : State) (g : Good e s) where
 
     -- banks and modes
 
-    context-word : c .regsize < c .rmsize → contextOf (s .core) < top c
+    -- the context of a core with its bank, flags, mask and PC in their ranges
+    context-word : (m : Core) → m .wp / 16 < 64 → m .n ≤ 1 → m .z ≤ 1 → m .imask ≤ 15 → m .pc < c .imsize → c .regsize < c .rmsize → contextOf m < top c
     unfolding contextOf
-    context-word k =
-        let w : bits (c .regwidth) ≡ 32 = law .same-width ∙ law .banks-wide k in
-        let p : s .core .wp / 16 < 64 = omega (arith, g .core .bank .inside, law .registers-some, law .banks) in
-        rw w (omega (arith, g .core .flags .negative, g .core .flags .zero, g .core .masks .now, t .pc, law .image))
+    context-word m w n z i p k =
+        let wide : bits (c .regwidth) ≡ 32 = law .same-width ∙ law .banks-wide k in
+        rw wide (omega (arith, w, n, z, i, p, law .image))
 
     in-unit : (u : ℕ) → 16 * u + c .regsize ≤ c .rmsize → InBank c (16 * u)
     in-unit u h = record { whole = omega arith; inside = h }
@@ -327,10 +328,14 @@ module _ (e : Env) (s : State) (g : Good e s) where
     enter-bank-sound : i .value < c .imsize → 16 * i .destination + c .regsize ≤ c .rmsize → c .regsize < c .rmsize → Sound e s (enterBankPlan v i)
     unfolding enterBankPlan
     enter-bank-sound a b k =
-        register-sound (kept-banked (to (omega (arith, a, law .image))) (in-unit (i .destination) b)) refl (context-word k)
-        (omega (arith, b, law .registers-some))
+        register-sound (kept-banked (to (omega (arith, a, law .image))) (in-unit (i .destination) b)) refl
+        (context-word _ (omega (arith, g .core .bank .inside, b, law .registers-some, law .banks)) (g .core .flags .negative) (g .core .flags .zero)
+        (g .core .masks .now)
+        (t .pc)
+        k)
+        (omega (arith, g .core .bank .inside, b, law .registers-some))
 
-    leave-bank-sound : 16 * (register v 0 / 0x4000000) + c .regsize ≤ c .rmsize → Sound e s (leaveBankPlan v i)
+    leave-bank-sound : wpIn (register v 0) + c .regsize ≤ c .rmsize → Sound e s (leaveBankPlan v i)
     unfolding leaveBankPlan
     leave-bank-sound k =
         let m = g .core .masks in

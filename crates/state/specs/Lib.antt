@@ -3,11 +3,14 @@ pub mod Ranges
 pub mod Cores
 pub mod Operands
 pub mod Destinations
+pub mod Context
 pub mod Plans
 pub mod Stops
 pub mod Step
 pub mod Run
+pub mod Calls
 pub mod Claims
+pub mod ComesBack
 pub mod Loaded
 pub mod Good
 pub mod Landing

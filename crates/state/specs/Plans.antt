@@ -1,5 +1,5 @@
 -- What an instruction changes, by its kind: document 01, 'One step'. Used where no stop is given.
-use Prim.Native.Nat.{ℕ, _+_, _-_, _*_, _/_, _%_}
+use Prim.Native.Nat.{ℕ, _+_, _-_, _*_, _%_}
 use lib.Dec.{leb, eqb}
 use lib.ListN.{getD}
 use Rattle.laws.specs.Choice.{pick}
@@ -19,6 +19,7 @@ use Rattle.state.specs.declared.Core.{Core}
 use Rattle.state.specs.declared.Change.{Change}
 use Rattle.state.specs.State.{top}
 use Rattle.state.specs.Cores.{at, posting, next, flagged, indexed, multiplied, deep, masked, banked, taking, logging, off, write, change, moved, toRegister, toMemory, toStack, toLog}
+use Rattle.state.specs.Context.{contextOf, wpIn, nIn, zIn, maskIn, addressIn}
 use Rattle.state.specs.Operands.{View, cell, register, dataAddress, constant, operand, conditionMet, specialRegister}
 
 -- the ALU at width W, of words that are taken mod 2^W and N mod 2: registers of a record in its ranges are so already
@@ -35,10 +36,6 @@ advanced c m = indexed m (m .loaded) (pick (eqb (m .rx + 1) (c .regsize)) 0 (m .
 -- "logs it with MSbit set"
 unfoldable pub withTopBit : Config → ℕ → ℕ
 withTopBit c x = pick (leb (half (bits (c .regwidth))) x) x (x + half (bits (c .regwidth)))
-
--- "the new bank's %00 gets WP/16 in 31-26, SR in 25-20 (N bit 21, Z bit 20, others 0), IMask 19-16, PC+1 in 15-0"
-unfoldable pub contextOf : Core → ℕ
-contextOf m = 0x4000000 * (m .wp / 16) + 0x200000 * m .n + 0x100000 * m .z + 65536 * m .imask + (m .pc + 1)
 
 -- "Register targets are taken mod 2^23."
 abbrev pub registerTarget : ℕ → ℕ
@@ -184,8 +181,7 @@ module _ (v : View) (i : Instruction) where
   unfoldable pub leaveBankPlan : Change
   leaveBankPlan =
       moved
-      (masked (flagged (banked (at M (context % 65536)) (16 * (context / 0x4000000))) 0 (context / 0x100000 % 2) (context / 0x200000 % 2))
-      (context / 65536 % 16)
+      (masked (flagged (banked (at M (addressIn context)) (wpIn context)) 0 (zIn context) (nIn context)) (maskIn context)
       (v .core .saved)
       (v .core .mode))
 

@@ -1,6 +1,6 @@
 -- The numbers that stop a step, 4 to 15, in the table's order: document 01, 'Numbers of refusal and stop'; and 27, document 02's K4, "after 9 and before
 -- 10".
-use Prim.Native.Nat.{ℕ, _+_, _*_, _/_}
+use Prim.Native.Nat.{ℕ, _+_, _*_}
 use mathlib.Core.Bool.{_&&_, _||_}
 use mathlib.Core.List.{List, [], _∷_, _++_}
 use lib.Dec.{eqb}
@@ -13,6 +13,7 @@ use Rattle.words.specs.Words.{partsOf, refusals567}
 use Rattle.words.specs.Kinds.{Kind}
 use Rattle.words.specs.Facts.{factsFor}
 use Rattle.state.specs.State.{Env, State, stackLimit}
+use Rattle.state.specs.Context.{wpIn}
 use Rattle.state.specs.Operands.{View, viewOf, register, dataAddress}
 
 -- the special registers that MOV %d,%s reads in special-register mode
@@ -44,7 +45,7 @@ module _ (v : View) (i : Instruction) (f : Facts) where
   abbrev pub stop12 : Test
   stop12 =
       if? (f .tobank) (most (16 * i .destination + v .config .regsize) (v .config .rmsize)) and
-      if? (f .frombank) (most (16 * (register v 0 / 0x4000000) + v .config .regsize) (v .config .rmsize))
+      if? (f .frombank) (most (wpIn (register v 0) + v .config .regsize) (v .config .rmsize))
 
   -- 13 "data address from a register ≥ DM_SIZE": the source's where it is read, the destination's where it is written
   abbrev pub stop13 : Test

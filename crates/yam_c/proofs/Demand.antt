@@ -1,6 +1,6 @@
 -- Demand 3 of the C interface's calls: the state in the lists goes from call to call as the definitions have it.
 -- Assumes nothing.
-use mathlib.Core.Path.{_≡_, refl, sym}
+use mathlib.Core.Path.{_≡_, refl}
 use mathlib.Core.List.{List, [], _∷_}
 use Prim.Native.Nat.{ℕ, _<_, _≤_}
 use native.Mathlib.Omega.{arith}
@@ -11,29 +11,17 @@ use Rattle.state.specs.State.{Env, State, env}
 use Rattle.state.proofs.Ranges.{good}
 use Rattle.rules.specs.Marks.{markAt, levelOf}
 use Rattle.rules.specs.Check.{Passes}
-use Rattle.rules.specs.Calls.{Call, step, run, callOf}
+use Rattle.state.specs.Calls.{Call}
 use Rattle.rules.specs.Demand.{atReset}
 use Rattle.rules.specs.Invariant.{Invariant}
 use Rattle.rules.proofs.Exact.{exact}
 use Rattle.rules.proofs.Stepping.{low}
 use Rattle.rules.proofs.Demand.{call-well, reset-holds}
 use Rattle.yam_c.specs.Flat.{stored, cell, configOf}
-use Rattle.yam_c.specs.Calls.{Moved, stepLeft, runLeft, checkLeft}
+use Rattle.yam_c.specs.Calls.{checkLeft}
 use Rattle.yam_c.specs.Claims.{Held, stateIn, leftBy, callWith, answered, Allowed, heldAtReset, Demand3Lists}
 use Rattle.yam_c.proofs.Machines.{machine-in}
-use Rattle.yam_c.proofs.HandsOn.{good-shaped, reset-back, step-hands-on, run-hands-on}
-
--- a call on the lists does what the definition says of the state in them
-
-pub record Agrees (e : Env) (s : State) (c : Call) (x : Moved) : Type 0 where
-  pub number : callOf e c s .number ≡ x .number
-  pub left : callOf e c s .last ≡ stateIn (leftBy x)
-
-agrees : (config image inputs : List ℕ) (h : Held) (c : Call) (answers : List ℕ) →
-    Agrees (env (configOf config) image inputs) (stateIn h) c (callWith config image inputs h c answers)
-unfolding callOf stepLeft runLeft
-agrees config image inputs h step answers = record { number = refl; left = sym (step-hands-on config image inputs h answers) }
-agrees config image inputs h (run budget) answers = record { number = refl; left = sym (run-hands-on config image inputs h budget answers) }
+use Rattle.yam_c.proofs.HandsOn.{good-shaped, reset-back, agrees}
 
 module _ (config image inputs certificate : List ℕ) (ok : Passes (configOf config) image certificate) where
   abbrev e : Env

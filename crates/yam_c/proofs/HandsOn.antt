@@ -13,6 +13,7 @@ use Rattle.laws.specs.Test.{test, Holds}
 use Rattle.state.specs.State.{Env, State, env, resetMachine}
 use Rattle.state.specs.Step.{stepOf}
 use Rattle.state.specs.Run as Run
+use Rattle.state.specs.Calls.{Call, step, run, callOf}
 use Rattle.state.specs.Good.{Good}
 use Rattle.state.proofs.Ranges.{good}
 use Rattle.state.proofs.StaysValid.{step-valid}
@@ -21,8 +22,8 @@ use Rattle.state.proofs.Lengths.{step-long, run-call-long}
 use Rattle.state.proofs.Calls.{step-accepted, run-did, run-leaves-good}
 use Rattle.machine.specs.Stepping.{endOf, machineState}
 use Rattle.yam_c.specs.Flat.{stored, configOf, shaped, machineOf, machineWords, updated}
-use Rattle.yam_c.specs.Calls.{stepLeft, runLeft, resetCall}
-use Rattle.yam_c.specs.Claims.{Held, stateIn, StepHandsOn, RunHandsOn}
+use Rattle.yam_c.specs.Calls.{Moved, stepLeft, runLeft, resetCall}
+use Rattle.yam_c.specs.Claims.{Held, stateIn, leftBy, callWith, StepHandsOn, RunHandsOn}
 use Rattle.yam_c.proofs.Storing.{stored-all}
 use Rattle.yam_c.proofs.Machines.{stack-length, machine-in, machine-out, shaped-holds}
 use Rattle.yam_c.proofs.Back.{words-length, words-back, one-word}
@@ -108,3 +109,14 @@ run-hands-on config image inputs h budget answers =
     let did : ltb 0 (r .steps) ≡ true → Good e s = λ q. run-did e s budget (λ z. let y : ⊥ = omega (arith, z, ltb-true 0 (r .steps) q) in absurd y) in
     read-next e h (r .last) (ltb 0 (r .steps)) did (λ q. run-leaves-good budget e s (did q)) (run-call-long budget e s)
     (λ q. idle budget e s (endOf r) refl q)
+
+-- a call on the lists does what the definition says of the state in them
+pub record Agrees (e : Env) (s : State) (c : Call) (x : Moved) : Type 0 where
+  pub number : callOf e c s .number ≡ x .number
+  pub left : callOf e c s .last ≡ stateIn (leftBy x)
+
+pub agrees : (config image inputs : List ℕ) (h : Held) (c : Call) (answers : List ℕ) →
+    Agrees (env (configOf config) image inputs) (stateIn h) c (callWith config image inputs h c answers)
+unfolding callOf stepLeft runLeft
+agrees config image inputs h step answers = record { number = refl; left = sym (step-hands-on config image inputs h answers) }
+agrees config image inputs h (run budget) answers = record { number = refl; left = sym (run-hands-on config image inputs h budget answers) }

@@ -4,4 +4,5 @@ pub mod Machines
 pub mod Calls
 pub mod Back
 pub mod HandsOn
+pub mod ComesBack
 pub mod Demand

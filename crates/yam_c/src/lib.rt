@@ -9,6 +9,7 @@ ghost use Rattle.state.specs.Run as Run;
 ghost use Rattle.machine.specs.Stepping.{machineState, endOf};
 ghost use Rattle.yam_c.specs.Flat.{shaped, machineOf};
 ghost use Rattle.yam_c.specs.Calls.{left, readLeft, readCall, writeLeft, writeCall, resetCall, moved, stepLeft, stepCall, runLeft, runCall, checkLeft, checkCall, printed, textPrinted, listCall, assembled, assembleCall, filled, loadCall, storeCall};
+ghost use Rattle.yam_c.specs.ComesBack.{ComesBackLists};
 ghost use Rattle.yam_c.specs.Claims.{ConfigBack, InstructionBack, MachineBack, StepHandsOn, RunHandsOn, Demand3Lists};
 
 mod flat;
@@ -162,7 +163,7 @@ pub extern "C" fn yam_step(
     values: &mut [u32],
     answers: &mut [u64],
 ) -> u32
-    ensures { λ n. ⌜ (moved n (now (machine .exit)) (now (registers .exit)) (now (memory .exit)) (now (addresses .exit)) (now (values .exit)) (now (answers .exit)) ≡ stepCall (now (config .entry)) (now (image .entry)) (now (inputs .entry)) (now (machine .entry)) (now (registers .entry)) (now (memory .entry)) (now (addresses .entry)) (now (values .entry)) (now (answers .entry))) × StepHandsOn ⌝ }
+    ensures { λ n. ⌜ (moved n (now (machine .exit)) (now (registers .exit)) (now (memory .exit)) (now (addresses .exit)) (now (values .exit)) (now (answers .exit)) ≡ stepCall (now (config .entry)) (now (image .entry)) (now (inputs .entry)) (now (machine .entry)) (now (registers .entry)) (now (memory .entry)) (now (addresses .entry)) (now (values .entry)) (now (answers .entry))) × StepHandsOn × ComesBackLists ⌝ }
 {
     let c = config_from(config);
     if machine_shaped(machine) {
@@ -231,7 +232,7 @@ pub extern "C" fn yam_run(
     budget: u64,
     answers: &mut [u64],
 ) -> u32
-    ensures { λ n. ⌜ (moved n (now (machine .exit)) (now (registers .exit)) (now (memory .exit)) (now (addresses .exit)) (now (values .exit)) (now (answers .exit)) ≡ runCall (now (config .entry)) (now (image .entry)) (now (inputs .entry)) (now (machine .entry)) (now (registers .entry)) (now (memory .entry)) (now (addresses .entry)) (now (values .entry)) budget (now (answers .entry))) × RunHandsOn ⌝ }
+    ensures { λ n. ⌜ (moved n (now (machine .exit)) (now (registers .exit)) (now (memory .exit)) (now (addresses .exit)) (now (values .exit)) (now (answers .exit)) ≡ runCall (now (config .entry)) (now (image .entry)) (now (inputs .entry)) (now (machine .entry)) (now (registers .entry)) (now (memory .entry)) (now (addresses .entry)) (now (values .entry)) budget (now (answers .entry))) × RunHandsOn × ComesBackLists ⌝ }
 {
     let c = config_from(config);
     if machine_shaped(machine) {

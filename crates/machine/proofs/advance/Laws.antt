@@ -21,7 +21,8 @@ use Rattle.state.specs.declared.Change.{Change}
 use Rattle.state.specs.State.{Env, State, top, stackLimit}
 use Rattle.state.specs.Cores.{stopped}
 use Rattle.state.specs.Operands.{View, viewOf}
-use Rattle.state.specs.Plans.{contextOf, advanced, comparePlan, computePlan, multiplyPlan, loadIndexPlan, indexStorePlan, indexLoadPlan, movePlan, loadConstantPlan, loadRegisterPlan, loadDirectPlan, storeRegisterPlan, storeDirectPlan, portReadPlan, portWritePlan, portModifyPlan, jumpPlan, branchPlan, jumpRegisterPlan, branchRegisterPlan, callPlan, callRegisterPlan, retPlan, retConstantPlan, enterBankPlan, leaveBankPlan, enterSpecialPlan, leaveSpecialPlan, planOf}
+use Rattle.state.specs.Context.{contextOf}
+use Rattle.state.specs.Plans.{advanced, comparePlan, computePlan, multiplyPlan, loadIndexPlan, indexStorePlan, indexLoadPlan, movePlan, loadConstantPlan, loadRegisterPlan, loadDirectPlan, storeRegisterPlan, storeDirectPlan, portReadPlan, portWritePlan, portModifyPlan, jumpPlan, branchPlan, jumpRegisterPlan, branchRegisterPlan, callPlan, callRegisterPlan, retPlan, retConstantPlan, enterBankPlan, leaveBankPlan, enterSpecialPlan, leaveSpecialPlan, planOf}
 use Rattle.state.specs.Stops.{stops9to15, partsAt, kindAt, factsAt, stops}
 use Rattle.state.specs.Step.{number, applied, planAt, cyclesOf, Outcome, refused, advanceOf}
 use Rattle.state.specs.Good.{Good}

@@ -24,7 +24,8 @@ use Rattle.state.specs.declared.Change.{Change}
 use Rattle.state.specs.State.{top, stackLimit}
 use Rattle.state.specs.Cores.{posting, flagged, indexed, multiplied, deep, masked, banked, taking, logging, off as no-write, write, change, stopped, moved, toRegister, toMemory, toStack, toLog}
 use Rattle.state.specs.Operands.{View, cell, register, dataAddress, constant, operand, conditionMet}
-use Rattle.state.specs.Plans.{product, advanced, withTopBit, contextOf, registerTarget, comparePlan, computePlan, planOf}
+use Rattle.state.specs.Context.{contextOf, wpIn, nIn, zIn, maskIn, addressIn}
+use Rattle.state.specs.Plans.{product, advanced, withTopBit, registerTarget, comparePlan, computePlan, planOf}
 use Rattle.state.specs.Plans.{multiplyPlan, loadIndexPlan, indexStorePlan, indexLoadPlan, movePlan, loadConstantPlan, loadRegisterPlan, loadDirectPlan, storeRegisterPlan, storeDirectPlan, portReadPlan, portModifyPlan, portWritePlan, jumpPlan, branchPlan, jumpRegisterPlan, branchRegisterPlan, callPlan, callRegisterPlan, retPlan, retConstantPlan, enterBankPlan, leaveBankPlan}
 use Rattle.state.specs.Stops.{stops9to15}
 use Rattle.state.proofs.Ranges.{top-byte}
@@ -296,7 +297,7 @@ module _ (v : View) (w b e : ℕ) (i : Instruction) {at d s fl val tk : ℕ}
   enter-bank-is k x-is q = entered (q ∙ rw (x-is, unit-is k, address-is k, k) (trim (leb (16 * i .destination + v .config .regsize) (v .config .rmsize)) _ _))
 
   pub leave-bank-is : {r : Change} → {x : ℕ} → K ≡ leave-bank → x ≡ getD (v .registers) (v .core .wp) 0 →
-      r ≡ pick (leb (16 * (x / 0x4000000) + v .config .regsize) (v .config .rmsize)) (moved (masked (flagged (banked (went (v .core) (x % 65536)) (16 * (x / 0x4000000))) 0 (x / 0x100000 % 2) (x / 0x200000 % 2)) (x / 65536 % 16) (v .core .saved) (v .core .mode))) (stopped (v .core) 12) → r ≡ act v i (entryKind e)
+      r ≡ pick (leb (wpIn x + v .config .regsize) (v .config .rmsize)) (moved (masked (flagged (banked (went (v .core) (addressIn x)) (wpIn x)) 0 (zIn x) (nIn x)) (maskIn x) (v .core .saved) (v .core .mode))) (stopped (v .core) 12) → r ≡ act v i (entryKind e)
   unfolding act stops9to15 planOf factsFor marksOf pick leaveBankPlan
   leave-bank-is k x-is q = entered (q ∙ rw (k, x-is ∙ ap (λ y. getD (v .registers) y 0) (sym (add-zero (v .core .wp)))))
 

@@ -1,6 +1,6 @@
 -- `machine::exec::context_of` meets its contract. Assumes nothing.
 use native.Mathlib.Omega.{arith}
-use Rattle.state.specs.Plans.{contextOf}
+use Rattle.state.specs.Context.{contextOf}
 use Rattle.machine.proofs.exec.context_of.Statement.{statement}
 use Rattle.machine.proofs.exec.context_of.Tie as tie
 
