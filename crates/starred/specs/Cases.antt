@@ -11,14 +11,14 @@ use Rattle.state.specs.declared.Core.{Core}
 use Rattle.state.specs.State.{State, env, state}
 use Rattle.state.specs.Step.{Outcome, stepOf}
 
--- a lawful core: IM_SIZE, W, RM_SIZE, ALU_LEVEL and DM_SIZE as given, every other option on
-abbrev pub sized : ℕ → ℕ → ℕ → ℕ → ℕ → Config
-sized image-size width registers level data-size =
+-- a lawful core: REG_SIZE, IM_SIZE, W, RM_SIZE, ALU_LEVEL and DM_SIZE as given, every other option on
+abbrev pub banks : ℕ → ℕ → ℕ → ℕ → ℕ → ℕ → Config
+banks bank-size image-size width registers level data-size =
     record {
       imwidth = 32;
       imsize = image-size;
       regwidth = width;
-      regsize = 16;
+      regsize = bank-size;
       rmsize = registers;
       pcstack = 8;
       dmsize = data-size;
@@ -35,6 +35,10 @@ sized image-size width registers level data-size =
       copmsize = 0;
       yamdbg = 0;
     }
+
+-- with 16 registers a bank
+abbrev pub sized : ℕ → ℕ → ℕ → ℕ → ℕ → Config
+sized = banks 16
 
 -- with an image that holds every target of a case; K2: "the JSRWP case has an IM_SIZE above 40 hex"
 abbrev pub configured : ℕ → ℕ → ℕ → ℕ → Config
