@@ -5,9 +5,9 @@ use mathlib.Core.Path.{_≡_, sym, ap}
 use mathlib.Core.List.{List, [], _∷_}
 use Rattle.words.specs.declared.Config.{Config}
 use Rattle.state.specs.State.{Env, State, env}
+use Rattle.state.specs.Calls.{callOf}
 use Rattle.rules.specs.Marks.{markAt, levelOf}
 use Rattle.rules.specs.Check.{Answer, checkOf, Passes}
-use Rattle.state.specs.Calls.{callOf}
 use Rattle.rules.specs.Demand.{atReset}
 use Rattle.rules.specs.Invariant.{Invariant}
 use Rattle.rules.proofs.Exact.{exact}

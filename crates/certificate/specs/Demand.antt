@@ -6,10 +6,10 @@ use Rattle.laws.specs.First.{Every}
 use Rattle.words.specs.declared.Config.{Config}
 use Rattle.state.specs.State.{Env, State, env}
 use Rattle.state.specs.Step.{Outcome}
+use Rattle.state.specs.Calls.{Call, step, run, callOf}
 use Rattle.machine.specs.Stepping.{End}
 use Rattle.machine.specs.Claims.{Steps, Runs}
 use Rattle.rules.specs.Check.{checkOf, passed}
-use Rattle.state.specs.Calls.{Call, step, run, callOf}
 use Rattle.rules.specs.Demand.{May, FromReset}
 
 -- a public call that was made, with what it answered and left

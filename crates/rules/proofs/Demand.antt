@@ -14,11 +14,11 @@ use Rattle.state.specs.State.{Env, State, env, top}
 use Rattle.state.specs.Ranges.{guards, budgetFits, runGuards}
 use Rattle.state.specs.Step.{refused, advanceOf, stepOf}
 use Rattle.state.specs.Run.{Run, ended, after, runOf, runCall}
+use Rattle.state.specs.Calls.{Call, step, run, Done, callOf}
 use Rattle.state.specs.Good.{Good}
 use Rattle.state.proofs.Ranges.{bounds, top-byte, good, valid, passes}
 use Rattle.rules.specs.Marks.{markAt, levelOf}
 use Rattle.rules.specs.Check.{checkOf, passed, Passes}
-use Rattle.state.specs.Calls.{Call, step, run, Done, callOf}
 use Rattle.rules.specs.Calls.{trace}
 use Rattle.rules.specs.Demand.{May, no-data, no-input, no-room, not-loaded, too-long, Fine, atReset, Demand3}
 use Rattle.rules.specs.Demand as demand

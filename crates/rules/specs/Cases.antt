@@ -12,8 +12,8 @@ use Rattle.words.specs.declared.Config.{Config}
 use Rattle.words.specs.Kinds.{ret, ret-constant, jump, branch, Z, call, move}
 use Rattle.words.specs.Facts.{factsFor}
 use Rattle.state.specs.State.{env}
-use Rattle.rules.specs.Successors.{successor, successors}
 use Rattle.state.specs.Calls.{Call, step, run, Done}
+use Rattle.rules.specs.Successors.{successor, successors}
 use Rattle.rules.specs.Calls.{trace}
 use Rattle.rules.specs.Demand.{atReset}
 use Rattle.rules.specs.Check.{Answer, passed, refused, broken, checkOf}

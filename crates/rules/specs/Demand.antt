@@ -7,8 +7,8 @@ use Rattle.laws.specs.Test.{Below}
 use Rattle.laws.specs.First.{Every}
 use Rattle.words.specs.declared.Config.{Config}
 use Rattle.state.specs.State.{State, env, state, top, resetMachine}
-use Rattle.rules.specs.Check.{checkOf, passed}
 use Rattle.state.specs.Calls.{Call, run, Done}
+use Rattle.rules.specs.Check.{checkOf, passed}
 use Rattle.rules.specs.Calls.{trace}
 
 -- what a call may answer: it passes, or stops "by a data address taken from a register (13), a missing reading (14) or a full log (15); a run may

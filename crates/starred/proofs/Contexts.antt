@@ -1,7 +1,7 @@
 -- The context switches go as the tables have them: antt computes each state from the definitions. Assumes nothing.
 use Prim.Native.Nat.{ℕ, zero, suc}
-use mathlib.Core.Path.{_≡_, refl, ap}
-use mathlib.Core.Bool.{Bool, true, false, not, _&&_}
+use mathlib.Core.Path.{_≡_, refl}
+use mathlib.Core.Bool.{Bool, true, _&&_}
 use lib.Dec.{T, eqb, eqb→eq}
 use Rattle.laws.specs.Choice.{pick}
 use Rattle.laws.specs.Test.{and-left, and-right, eq→eqb}
@@ -24,7 +24,7 @@ use Rattle.state.specs.Plans.{comparePlan, computePlan, movePlan, loadConstantP
 use Rattle.state.specs.Stops.{stops9to15, stops}
 use Rattle.state.specs.Step.{number, putOf, applied, planAt, cyclesOf, advanceOf, stepOf}
 use Rattle.state.specs.ComesBack.{afterStep, Reaches, here, onward}
-use Rattle.starred.specs.Contexts.{later, at, nested, overwritten, elsewhere, ContextCases}
+use Rattle.starred.specs.Contexts.{later, at, nested, elsewhere, ContextCases}
 
 -- k steps that are carried out, one after another
 abbrev all-done : Env → ℕ → State → Bool

@@ -23,7 +23,7 @@ use Rattle.state.specs.Step.{Outcome, refused, number, putOf, applied, p
 use Rattle.state.specs.Run.{Run, ended, after, runOf, runCall}
 use Rattle.state.specs.Calls.{Call, step, run, callOf}
 use Rattle.state.specs.Good.{Good}
-use Rattle.state.specs.ComesBack.{JSRWP, RETWP, CarriesOut, afterStep, Reaches, here, onward, registerZero, Switch, Restored, ComesBack, Entered, Taken, GoesByZero, leftBy, GoesAlong}
+use Rattle.state.specs.ComesBack.{JSRWP, RETWP, CarriesOut, afterStep, Reaches, here, onward, registerZero, Restored, ComesBack, Entered, Taken, GoesByZero, leftBy, GoesAlong}
 use Rattle.state.proofs.Ranges.{bounds, accepted, passes}
 use Rattle.state.proofs.Stops.{told}
 use Rattle.state.proofs.StaysValid.{lands, stays-good}

@@ -1,10 +1,10 @@
 -- K6 of the C interface's calls: the state in the lists goes from call to call as the definitions have it.
 -- Assumes nothing.
 use Prim.Native.Nat.{ℕ}
-use mathlib.Core.Path.{_≡_, refl, sym, ap, subst, _∙_}
+use mathlib.Core.Path.{_≡_, sym, ap, subst, _∙_}
 use mathlib.Core.List.{List, [], _∷_}
 use Rattle.words.specs.Kinds.{Kind}
-use Rattle.state.specs.State.{Env, State, env}
+use Rattle.state.specs.State.{Env, env}
 use Rattle.state.specs.Step.{stepOf}
 use Rattle.state.specs.Calls.{Call, step, callOf}
 use Rattle.state.specs.ComesBack as claim

@@ -7,11 +7,11 @@ use native.Mathlib.Omega.{arith}
 use lib.ListN.{length}
 use Rattle.laws.specs.Choice.{pick}
 use Rattle.laws.specs.First.{Every}
-use Rattle.state.specs.State.{Env, State, env}
+use Rattle.state.specs.State.{Env, env}
+use Rattle.state.specs.Calls.{Call}
 use Rattle.state.proofs.Ranges.{good}
 use Rattle.rules.specs.Marks.{markAt, levelOf}
 use Rattle.rules.specs.Check.{Passes}
-use Rattle.state.specs.Calls.{Call}
 use Rattle.rules.specs.Demand.{atReset}
 use Rattle.rules.specs.Invariant.{Invariant}
 use Rattle.rules.proofs.Exact.{exact}

@@ -9,9 +9,9 @@ use Rattle.words.specs.declared.Instruction.{Instruction}
 use Rattle.state.specs.State.{Env, State, env}
 use Rattle.state.specs.Step.{stepOf}
 use Rattle.state.specs.Run as Run
+use Rattle.state.specs.Calls.{Call, step, run}
 use Rattle.state.specs.Claims.{Valid}
 use Rattle.machine.specs.Stepping.{machineState}
-use Rattle.state.specs.Calls.{Call, step, run}
 use Rattle.rules.specs.Demand.{May, FromReset}
 use Rattle.yam_c.specs.Flat.{cell, configOf, configWords, instructionOf, instructionWords, coreIn, machineOf, machineWords}
 use Rattle.yam_c.specs.Calls.{Moved, resetCall, stepCall, runCall, checkCall}
