@@ -1,6 +1,7 @@
 //! One call made of the model and of the library: answers and every list compared, what was met counted, a difference made smaller.
 
 use crate::calls::Calls;
+use crate::contexts::ContextsSeen;
 use crate::demand::DemandSeen;
 use crate::generate::states::Lists;
 use crate::inputs::{self, Call, Input, Output};
@@ -19,6 +20,7 @@ pub struct Pair<'a> {
     pub demand: DemandSeen,
     pub texts: TextsSeen,
     pub runs: RunsSeen,
+    pub contexts: ContextsSeen,
     /// How many differences were made smaller: as many as are shown, of others what was given is said as it was.
     made_smaller: usize,
 }
@@ -36,6 +38,7 @@ impl<'a> Pair<'a> {
             demand: DemandSeen::default(),
             texts: TextsSeen::default(),
             runs: RunsSeen::default(),
+            contexts: ContextsSeen::default(),
             made_smaller: 0,
         }
     }

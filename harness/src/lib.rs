@@ -5,9 +5,11 @@ pub mod calls;
 pub mod cases;
 pub mod commands;
 pub mod compare;
+pub mod contexts;
 pub mod demand;
 pub mod document;
 pub mod document_bytes;
+pub mod document_contexts;
 pub mod document_index;
 pub mod document_targets;
 pub mod document_texts;
@@ -33,6 +35,8 @@ pub mod superseded;
 pub mod texts;
 #[cfg(test)]
 mod trials;
+#[cfg(test)]
+mod trials_contexts;
 pub mod vector_parts;
 pub mod vectors;
 pub mod walk;

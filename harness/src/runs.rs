@@ -87,9 +87,15 @@ const PC: usize = 0;
 const DEPTH: usize = 7;
 const MODE: usize = 10;
 
-/// As many single steps of the library as the run may have; `watch` is shown the registers before each that was carried out, and the
-/// machine before and after it.
-fn single_steps(library: &dyn Calls, input: &Input, mut watch: impl FnMut(&[u32], &[u32], &[u32])) -> Stepped {
+/// A machine and its registers, before a step or after it.
+#[derive(Clone, Copy)]
+pub struct Moment<'a> {
+    pub machine: &'a [u32],
+    pub registers: &'a [u32],
+}
+
+/// As many single steps of the library as the run may have; `watch` is shown what was before each that was carried out, and after it.
+pub fn single_steps(library: &dyn Calls, input: &Input, mut watch: impl FnMut(Moment, Moment)) -> Stepped {
     let (config, budget) = (input.arguments[0].value.words(), input.arguments[BUDGET].value.number());
     let left = input.lists();
     let mut stepped = Stepped { number: 0, steps: 0, cycles: 0, deepest: 0, left };
@@ -110,7 +116,8 @@ fn single_steps(library: &dyn Calls, input: &Input, mut watch: impl FnMut(&[u32]
         stepped.steps += 1;
         stepped.cycles += answers[0];
         stepped.deepest = stepped.deepest.max(lists.machine[DEPTH]);
-        watch(&registers, &machine, &lists.machine);
+        let before = Moment { machine: &machine, registers: &registers };
+        watch(before, Moment { machine: &lists.machine, registers: &lists.registers });
     }
     stepped
 }
@@ -131,13 +138,25 @@ fn not_its_steps(input: &Input, ran: &Output, stepped: &Stepped) -> Option<Strin
 /// A run, compared with the model, and its library side with as many single steps of the library: number, steps, cycles and lists must
 /// be the same. `lists` is left as the run leaves it.
 pub fn run(pair: &mut Pair, config: &[u32], lists: &mut Lists, budget: u64) -> Result<(Advanced, Stepped), String> {
+    watched(pair, config, lists, budget, |_, _| ())
+}
+
+/// The same, where `watch` is shown the single steps.
+pub fn watched(
+    pair: &mut Pair,
+    config: &[u32],
+    lists: &mut Lists,
+    budget: u64,
+    mut watch: impl FnMut(Moment, Moment),
+) -> Result<(Advanced, Stepped), String> {
     let input = Input::advance(config, lists, Some(budget), &[0; 2]);
     let ran = pair.compare(&input)?;
     let (library, runs, seen) = (pair.library, &mut pair.runs, &mut pair.seen);
     let movx_before = seen.indexes.carried_out();
-    let stepped = single_steps(library, &input, |registers, before, after| {
-        runs.note(config, before, after);
-        seen.note_step(Done::Run, config, &lists.image, registers, before, after);
+    let stepped = single_steps(library, &input, |before, after| {
+        runs.note(config, before.machine, after.machine);
+        seen.note_step(Done::Run, config, &lists.image, before.registers, before.machine, after.machine);
+        watch(before, after);
     });
     pair.compared += 1;
     if let Some(said) = not_its_steps(&input, &ran, &stepped) {
@@ -146,7 +165,7 @@ pub fn run(pair: &mut Pair, config: &[u32], lists: &mut Lists, budget: u64) -> R
             let [.., budget, answers] = &input.arguments[..] else { return false };
             (1..=BUDGET_LIMIT).contains(&budget.value.number()) && answers.value.wides().len() == 2
         };
-        let again = |input: &Input| not_its_steps(input, &input.make(library), &single_steps(library, input, |_, _, _| ()));
+        let again = |input: &Input| not_its_steps(input, &input.make(library), &single_steps(library, input, |_, _| ()));
         return Err(pair.tell(&input, said, &|input| Some(input).filter(comparable).and_then(again)));
     }
     let movx_done = pair.seen.indexes.carried_out() > movx_before;
@@ -162,7 +181,7 @@ pub fn run(pair: &mut Pair, config: &[u32], lists: &mut Lists, budget: u64) -> R
 }
 
 /// Lists with inputs and log enough for many steps.
-fn lists(r: &mut Random, c: &Config, image: Vec<u32>) -> Lists {
+pub fn lists(r: &mut Random, c: &Config, image: Vec<u32>) -> Lists {
     let mut lists = states::lists(r, c, image);
     if r.chance(80) {
         lists.inputs = (0..600).map(|_| r.odd()).collect();

@@ -3,6 +3,7 @@
 use crate::calls::{Calls, State};
 use crate::cases::SUBJECTS;
 use crate::compare::Pair;
+use crate::contexts::ContextsSeen;
 use crate::demand::DemandSeen;
 use crate::generate::configs::{self, Size};
 use crate::generate::states;
@@ -288,7 +289,7 @@ fn a_smaller_input_still_differs() {
 
 #[test]
 fn what_was_never_met_is_told() {
-    assert!(!RunsSeen::default().all_met() && !DemandSeen::default().all_met());
+    assert!(!RunsSeen::default().all_met() && !DemandSeen::default().all_met() && !ContextsSeen::default().all_met());
     let unmet = Seen::default().unmet();
     for what in [
         "17 never named rule 8",

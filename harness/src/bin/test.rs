@@ -6,7 +6,7 @@
 //!   --vectors  runs outside vectors as well, through the model and through the library
 //!   --programs runs the programs of that folder as well, those of docs/commands.md
 //!   --yam      calls that ./yam as a user would
-//!   --walk     runs the commands that this document shows
+//!   --walk     runs the commands that this document shows; may be given more than once
 //!   --case     runs one case again, as a difference names it
 //!
 //! Exit status 1 on any difference, or where something that is counted was never met.
@@ -16,6 +16,7 @@ use std::process::ExitCode;
 use yam_harness::calls::Calls;
 use yam_harness::cases::{Subject, SUBJECTS};
 use yam_harness::compare::Pair;
+use yam_harness::contexts::ContextsSeen;
 use yam_harness::demand::{DemandSeen, POSSIBLE as POSSIBLE_BY_DEMAND};
 use yam_harness::model::Model;
 use yam_harness::random::Random;
@@ -24,8 +25,8 @@ use yam_harness::seen::{Counts, Seen};
 #[cfg(any(feature = "library", feature = "plain"))]
 use yam_harness::stack;
 use yam_harness::{
-    commands, document, document_bytes, document_index, document_targets, document_texts, programs, refusals, signatures,
-    vectors, walk, LIBRARY, LIBRARY_NAME, SHOWN,
+    commands, document, document_bytes, document_contexts, document_index, document_targets, document_texts, programs, refusals,
+    signatures, vectors, walk, LIBRARY, LIBRARY_NAME, SHOWN,
 };
 
 /// How much of a difference is printed.
@@ -37,12 +38,13 @@ struct Options {
     vectors: Option<PathBuf>,
     programs: Option<PathBuf>,
     yam: Option<PathBuf>,
-    walk: Option<PathBuf>,
+    walk: Vec<PathBuf>,
     case: Option<(String, u64)>,
 }
 
 fn options() -> Result<Options, String> {
-    let mut options = Options { count: 2_200_000, seed: 1, vectors: None, programs: None, yam: None, walk: None, case: None };
+    let mut options =
+        Options { count: 2_200_000, seed: 1, vectors: None, programs: None, yam: None, walk: Vec::new(), case: None };
     let mut arguments = std::env::args().skip(1);
     while let Some(name) = arguments.next() {
         let value = arguments.next().ok_or(format!("{name} wants a value"))?;
@@ -52,7 +54,7 @@ fn options() -> Result<Options, String> {
             "--vectors" => options.vectors = Some(PathBuf::from(value)),
             "--programs" => options.programs = Some(PathBuf::from(value)),
             "--yam" => options.yam = Some(PathBuf::from(value)),
-            "--walk" => options.walk = Some(PathBuf::from(value)),
+            "--walk" => options.walk.push(PathBuf::from(value)),
             "--case" => {
                 let (subject, seed) = value.split_once(':').ok_or("a case is SUBJECT:SEED")?;
                 options.case = Some((subject.to_string(), number(seed)?));
@@ -114,14 +116,16 @@ fn test(options: &Options) -> Result<bool, String> {
         Some(yam) => good &= commands::run(yam)?,
         None => println!("yam was not given (--yam PATH): not called"),
     }
-    match &options.walk {
-        Some(document) => good &= walk::run(document)?,
-        None => println!("no document was given (--walk FILE): none walked through"),
+    for document in &options.walk {
+        good &= walk::run(document)?;
+    }
+    if options.walk.is_empty() {
+        println!("no document was given (--walk FILE): none walked through");
     }
     let Some(library) = LIBRARY else {
         println!("the library was left out of this build: nothing is compared with the model");
-        let given = [&options.vectors, &options.programs, &options.yam, &options.walk];
-        return if given.iter().any(|path| path.is_some()) { Ok(good) } else { Err("nothing was done".to_string()) };
+        let given = [&options.vectors, &options.programs, &options.yam].iter().any(|path| path.is_some());
+        return if given || !options.walk.is_empty() { Ok(good) } else { Err("nothing was done".to_string()) };
     };
     println!("the model beside the {LIBRARY_NAME}:");
     let mut pair = Pair::new(&Model, library);
@@ -170,9 +174,15 @@ fn test(options: &Options) -> Result<bool, String> {
         runs.late[2],
         runs.late[3]
     );
+    let contexts = pair.contexts;
+    contexts.print();
     println!("{} comparisons, {} cases with a difference", pair.compared, differences.len());
     let met = options.case.is_some()
-        || every_number_met(&pair.seen.numbers) & all_met(&pair.seen) & runs_met(&runs) & demand_met(&seen);
+        || every_number_met(&pair.seen.numbers)
+            & all_met(&pair.seen)
+            & runs_met(&runs)
+            & demand_met(&seen)
+            & contexts_met(&contexts);
     Ok(good && met && differences.is_empty())
 }
 
@@ -266,6 +276,13 @@ fn demand_met(seen: &DemandSeen) -> bool {
     seen.all_met()
 }
 
+fn contexts_met(seen: &ContextsSeen) -> bool {
+    if !seen.all_met() {
+        println!("the programs of K6 never met something that is counted of them: {seen:?}");
+    }
+    seen.all_met()
+}
+
 fn run_document(name: &str, calls: &dyn Calls) -> bool {
     let result = document::run(calls);
     match &result {
@@ -292,7 +309,12 @@ fn run_document(name: &str, calls: &dyn Calls) -> bool {
         Ok(count) => println!("index pointers by document 02, {name}: all {count} as it says"),
         Err(how) => println!("index pointers by document 02, {name}: {how}"),
     }
-    result.is_ok() && texts.is_ok() && targets.is_ok() && bytes.is_ok() && index.is_ok()
+    let contexts = document_contexts::run(calls);
+    match &contexts {
+        Ok(count) => println!("context switches by document 02, {name}: all {count} as it says"),
+        Err(how) => println!("context switches by document 02, {name}: {how}"),
+    }
+    result.is_ok() && texts.is_ok() && targets.is_ok() && bytes.is_ok() && index.is_ok() && contexts.is_ok()
 }
 
 fn run_refusals(name: &str, calls: &dyn Calls) -> bool {

@@ -1,6 +1,7 @@
 //! Inputs for the calls: valid ones, and ones damaged in a place or two.
 
 pub mod configs;
+pub mod contexts;
 pub mod files;
 pub mod programs;
 pub mod sources;
