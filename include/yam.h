@@ -131,7 +131,10 @@ uint32_t yam_reset(uint32_t *machine, size_t machine_length);
    alike); 3; 4 to 9, 27, 10 to 15. inputs: what the ports give, one word for each port read.
    answers: the step's cycles. On a refusal machine, registers, memory and log are left as they
    were. A call on the lists that a step or a run left reads the state that it left: that is
-   proved. */
+   proved. So is the return from a context switch: after a step that carried out a JSRWP, any steps
+   and runs, and a step that carries out a RETWP while WP, and register zero of that bank, are what
+   the JSRWP left there, PC is the call's address plus one, and WP, N, Z and the interrupt mask are
+   as before the call. */
 uint32_t yam_step(const uint32_t *config, size_t config_length, const uint32_t *image, size_t image_length, const uint32_t *inputs,
                   size_t inputs_length, uint32_t *machine, size_t machine_length, uint32_t *registers, size_t registers_length, uint32_t *memory,
                   size_t memory_length, uint32_t *log_addresses, size_t log_addresses_length, uint32_t *log_values, size_t log_values_length,
