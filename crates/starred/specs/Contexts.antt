@@ -74,8 +74,8 @@ nestedStates =
     (3 ∷ 0 ∷ 1 ∷ 0 ∷ 5 ∷ 0 ∷ []) ∷
     []
 
--- The user's fault: a routine overwrites register zero. The return goes where the new word says, to its own bank and with another mask; a workspace
--- pointer kept on a private stack would be 0, and N and the mask 1 and 5.
+-- A routine overwrites register zero: the fault that K6 speaks of. The return goes where the new word says, to the routine's own bank and with another mask;
+-- a model that keeps the workspace pointer on a private stack has WP 0 there.
 abbrev pub overwritten : Env
 overwritten =
     running

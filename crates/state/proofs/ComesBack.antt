@@ -1,6 +1,6 @@
 -- A RETWP that meets what a JSRWP stored brings back what was before the call; step and run calls go along the steps that are carried out.
 -- Assumes nothing.
-use Prim.Native.Nat.{ℕ, zero, suc, _+_, _*_, _/_, _<_}
+use Prim.Native.Nat.{ℕ, zero, suc, _+_, _*_, _%_, _≤_, _<_}
 use mathlib.Core.Path.{_≡_, refl, sym, ap, subst, _∙_}
 use mathlib.Core.Bool.{Bool, true, false}
 use mathlib.Core.List.{List, [], _∷_, _++_}
@@ -13,10 +13,11 @@ use Rattle.laws.specs.Choice.{pick, either}
 use Rattle.laws.specs.Test.{eq→eqb}
 use Rattle.laws.specs.First.{first-failing, Every}
 use Rattle.words.specs.Kinds.{enter-bank, leave-bank}
+use Rattle.state.specs.declared.Core.{Core}
 use Rattle.state.specs.State.{Env, State}
 use Rattle.state.specs.Ranges.{guards, runGuards}
 use Rattle.state.specs.Operands.{viewOf}
-use Rattle.state.specs.Context.{contextOf}
+use Rattle.state.specs.Context.{contextOf, wpIn, nIn, zIn, maskIn, addressIn}
 use Rattle.state.specs.Plans.{planOf, enterBankPlan, leaveBankPlan}
 use Rattle.state.specs.Stops.{partsAt, kindAt}
 use Rattle.state.specs.Step.{Outcome, refused, number, putOf, applied, planAt, advanceOf, stepOf}
@@ -78,25 +79,26 @@ takes e t h = subst (λ w. Taken (registerZero w t) (afterStep e t)) (add-zero (
 pub goes-by-zero : GoesByZero
 goes-by-zero = record { stores = enters; takes = takes }
 
--- the context says what was before the call
-brings-back : (e : Env) (s u : State) → CarriesOut e JSRWP s → Taken (contextOf (s .core)) u → Restored s u
+-- the readers take out of the context of a core what was put into it
+record Reads (m : Core) (x : ℕ) : Type 0 where
+  wp : wpIn x ≡ m .wp
+  n : nIn x ≡ m .n
+  z : zIn x ≡ m .z
+  mask : maskIn x ≡ m .imask
+  address : addressIn x ≡ m .pc + 1
+
+reads : (m : Core) → m .wp % 16 ≡ 0 → m .n ≤ 1 → m .z ≤ 1 → m .imask ≤ 15 → m .pc + 1 < 65536 → Reads m (contextOf m)
 unfolding contextOf
+reads m w n z i p = record { wp = omega arith; n = omega arith; z = omega arith; mask = omega arith; address = omega arith }
+
+-- so the context says what was before the call
+brings-back : (e : Env) (s u : State) → CarriesOut e JSRWP s → Taken (contextOf (s .core)) u → Restored s u
 brings-back e s u h k =
     let g = step-accepted e s (h .done) in
-    let b = bounds (e .config) (g .lawful) in
-    let w = g .core .bank .whole in
-    let l : s .core .wp / 16 < 64 = omega (arith, g .core .bank .inside, b .registers-some, b .banks) in
-    let p : s .core .pc + 1 < 65536 = omega (arith, told e s (step-applies e s (h .done) .passed) .pc, b .image) in
-    let n = g .core .flags .negative in
-    let z = g .core .flags .zero in
-    let m = g .core .masks .now in
-    record {
-      pc = k .pc ∙ omega (arith, l, p, n, z, m);
-      wp = k .wp ∙ omega (arith, l, p, n, z, m, w);
-      n = k .n ∙ omega (arith, l, p, n, z, m);
-      z = k .z ∙ omega (arith, l, p, n, z, m);
-      imask = k .imask ∙ omega (arith, l, p, n, z, m);
-    }
+    let f = g .core .flags in
+    let p : s .core .pc + 1 < 65536 = omega (arith, told e s (step-applies e s (h .done) .passed) .pc, bounds (e .config) (g .lawful) .image) in
+    let r = reads (s .core) (g .core .bank .whole) (f .negative) (f .zero) (g .core .masks .now) p in
+    record { pc = k .pc ∙ r .address; wp = k .wp ∙ r .wp; n = k .n ∙ r .n; z = k .z ∙ r .z; imask = k .imask ∙ r .mask }
 
 pub comes-back : ComesBack
 comes-back e s t h =
