@@ -3,6 +3,7 @@
 use Prim.Native.Nat.{ℕ}
 use mathlib.Core.Path.{_≡_, sym, ap, subst, _∙_}
 use mathlib.Core.List.{List, [], _∷_}
+use Rattle.laws.specs.First.{Every}
 use Rattle.words.specs.Kinds.{Kind}
 use Rattle.state.specs.State.{Env, env}
 use Rattle.state.specs.Step.{stepOf}
@@ -26,6 +27,14 @@ module _ (config image inputs : List ℕ) where
       let x = leftBy (callWith config image inputs h (c .0) (c .1)) in
       let one = subst (Reaches e (stateIn h)) (agrees config image inputs h (c .0) (c .1) .left) (goes-along .calls e (c .0 ∷ []) (stateIn h)) in
       goes-along .joins e (stateIn h) (stateIn x) (stateIn (heldAfter config image inputs cs x)) one (lists-go cs x)
+
+  goes-through : (c : Call) (answers : List ℕ) (h : Held) →
+      let after = stateIn (leftBy (callWith config image inputs h c answers)) in
+      Every (λ t. Reaches e (stateIn h) t × Reaches e t after) (callOf e c (stateIn h) .through)
+  goes-through c answers h =
+      subst (λ after. Every (λ t. Reaches e (stateIn h) t × Reaches e t after) (callOf e c (stateIn h) .through))
+      (agrees config image inputs h c answers .left)
+      (goes-along .through e c (stateIn h))
 
   -- the step that a yam_step carried out
   does : (k : Kind) (h u : Held) → CarriesOut config image inputs k h u → claim.CarriesOut e k (stateIn h)
@@ -53,4 +62,4 @@ module _ (config image inputs : List ℕ) where
       subst (Restored (stateIn h)) q (comes-back e (stateIn h) (stateIn t) met)
 
 pub comes-back-lists : ComesBackLists
-comes-back-lists = record { goes-along = lists-go; comes-back = back }
+comes-back-lists = record { goes-along = lists-go; through = goes-through; comes-back = back }

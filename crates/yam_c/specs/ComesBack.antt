@@ -1,12 +1,13 @@
 -- Coming back from a context switch, document 02's K6, of this interface's calls. A C caller sees the machine between calls, so here the JSRWP and the RETWP are
--- carried out by yam_step, with any calls between them; state's claim, which machine's step and run cite, speaks of those within a run too.
+-- carried out by yam_step, with any calls between them. Of those within a yam_run state's claim speaks, over the states that the run passes through.
 use Prim.Native.Nat.{ℕ}
 use mathlib.Core.Path.{_≡_}
 use mathlib.Core.List.{List, [], _∷_}
+use Rattle.laws.specs.First.{Every}
 use Rattle.words.specs.Kinds.{Kind}
 use Rattle.state.specs.State.{env}
 use Rattle.state.specs.Stops.{kindAt}
-use Rattle.state.specs.Calls.{Call, step}
+use Rattle.state.specs.Calls.{Call, step, callOf}
 use Rattle.state.specs.ComesBack.{JSRWP, RETWP, Reaches, registerZero, Restored}
 use Rattle.yam_c.specs.Flat.{configOf}
 use Rattle.yam_c.specs.Claims.{Held, stateIn, leftBy, callWith}
@@ -37,7 +38,12 @@ pub record Switch (config image inputs : List ℕ) (h entered t u : Held) : Type
   pub zero : let w = stateIn entered .core .wp in registerZero w (stateIn t) ≡ registerZero w (stateIn entered)
 
 pub record ComesBackLists : Type 0 where
-  -- what the lists hold after any calls, refused ones included, is reached by steps that were carried out
+  -- what the lists hold after any calls, refused ones included, is reached by steps that were carried out; so is every state that a call passes through, and
+  -- from there what the lists hold after the call
   pub goes-along : (config image inputs : List ℕ) (calls : List (Call × List ℕ)) (h : Held) →
       Reaches (env (configOf config) image inputs) (stateIn h) (stateIn (heldAfter config image inputs calls h))
+  pub through : (config image inputs : List ℕ) (c : Call) (answers : List ℕ) (h : Held) →
+      let e = env (configOf config) image inputs in
+      let after = stateIn (leftBy (callWith config image inputs h c answers)) in
+      Every (λ t. Reaches e (stateIn h) t × Reaches e t after) (callOf e c (stateIn h) .through)
   pub comes-back : (config image inputs : List ℕ) (h entered t u : Held) → Switch config image inputs h entered t u → Restored (stateIn h) (stateIn u)
