@@ -7,13 +7,13 @@ use mathlib.Core.List.{[], _∷_}
 use native.Mathlib.Nat.{lt-of-not-le}
 use native.Mathlib.Omega.{arith}
 use borrow.Author.Tests.{le-leb, lt-leb, eq-eqb, ne-eqb, eqb-true, eqb-false}
-use lib.Dec.{leb, eqb}
+use lib.Dec.{leb, eqb, eqb→eq}
 use Rattle.laws.specs.Choice.{pick, either}
-use Rattle.laws.specs.Test.{Holds}
+use Rattle.laws.specs.Test.{Holds, eq→eqb}
 use Rattle.laws.specs.First.{first-failing, first-append, none-fails}
 use Rattle.state.specs.State.{Env, State}
 use Rattle.state.specs.Ranges.{guards, budgetFits, runGuards}
-use Rattle.state.specs.Step.{Outcome, refused, advanceOf, stepOf}
+use Rattle.state.specs.Step.{Outcome, refused, number, applied, planAt, advanceOf, stepOf}
 use Rattle.state.specs.Run.{Run, ended, after, runOf, runCall}
 use Rattle.state.specs.Good.{Good}
 use Rattle.state.specs.Claims.{Follows, Halts, RunBySteps, RunSplits}
@@ -79,6 +79,23 @@ step-accepted e s z = go (eqb (first-failing (guards e s)) 0) refl
     go false q =
         let n = eqb-false (first-failing (guards e s)) 0 q in
         absurd (n (ap (λ o. o .number) (step-refused e s (first-failing (guards e s)) refl n) ∙ z))
+
+-- a step that is carried out applies its plan
+pub record Applies (e : Env) (s : State) (o : Outcome) : Type 0 where
+  pub passed : number e s ≡ 0
+  pub made : o .state ≡ applied (planAt e s) s
+
+pub advance-applies : (e : Env) (s : State) → advanceOf e s .number ≡ 0 → Applies e s (advanceOf e s)
+unfolding advanceOf
+advance-applies e s =
+    either (λ (o : Outcome). o .number ≡ 0 → Applies e s o) (eqb (number e s) 0) _ (refused (number e s) s)
+    (λ u z. record { passed = eqb→eq (number e s) 0 u; made = refl })
+    (λ f z. absurd (f (eq→eqb (number e s) 0 z)))
+
+pub step-applies : (e : Env) (s : State) → stepOf e s .number ≡ 0 → Applies e s (stepOf e s)
+step-applies e s z =
+    let q = step-taken e s (first-failing (guards e s)) refl (passes e s (step-accepted e s z)) in
+    rw (← q) (advance-applies e s (ap (λ o. o .number) q ∙ z))
 
 halts : (s : State) (n : ℕ) (r : Run) → r ≡ ended n s → Halts s n r
 halts s n r q =

@@ -10,7 +10,6 @@ use borrow.Author.Tests.{eqb-true, eqb-false}
 use lib.Dec.{eqb, eqb→eq}
 use lib.Seq.{getD-set-same}
 use Rattle.laws.specs.Choice.{pick, either}
-use Rattle.laws.specs.Test.{eq→eqb}
 use Rattle.laws.specs.First.{first-failing, Every}
 use Rattle.words.specs.Kinds.{enter-bank, leave-bank}
 use Rattle.state.specs.declared.Core.{Core}
@@ -20,7 +19,7 @@ use Rattle.state.specs.Operands.{viewOf}
 use Rattle.state.specs.Context.{contextOf, wpIn, nIn, zIn, maskIn, addressIn}
 use Rattle.state.specs.Plans.{planOf, enterBankPlan, leaveBankPlan}
 use Rattle.state.specs.Stops.{partsAt, kindAt}
-use Rattle.state.specs.Step.{Outcome, refused, number, putOf, applied, planAt, advanceOf, stepOf}
+use Rattle.state.specs.Step.{putOf, applied, planAt, advanceOf, stepOf}
 use Rattle.state.specs.Run.{Run, ended, after, runOf, runCall}
 use Rattle.state.specs.Calls.{Call, step, run, callOf}
 use Rattle.state.specs.Good.{Good}
@@ -29,24 +28,7 @@ use Rattle.state.proofs.Ranges.{bounds, accepted, passes}
 use Rattle.state.proofs.Stops.{told}
 use Rattle.state.proofs.StaysValid.{lands, stays-good}
 use Rattle.state.proofs.Unchanged.{refused-stays}
-use Rattle.state.proofs.Calls.{step-accepted, step-taken, run-refused}
-
--- a step that is carried out applies its plan
-record Applies (e : Env) (s : State) (o : Outcome) : Type 0 where
-  passed : number e s ≡ 0
-  made : o .state ≡ applied (planAt e s) s
-
-advance-applies : (e : Env) (s : State) → advanceOf e s .number ≡ 0 → Applies e s (advanceOf e s)
-unfolding advanceOf
-advance-applies e s =
-    either (λ (o : Outcome). o .number ≡ 0 → Applies e s o) (eqb (number e s) 0) _ (refused (number e s) s)
-    (λ u z. record { passed = eqb→eq (number e s) 0 u; made = refl })
-    (λ f z. absurd (f (eq→eqb (number e s) 0 z)))
-
-step-applies : (e : Env) (s : State) → stepOf e s .number ≡ 0 → Applies e s (stepOf e s)
-step-applies e s z =
-    let q = step-taken e s (first-failing (guards e s)) refl (passes e s (step-accepted e s z)) in
-    rw (← q) (advance-applies e s (ap (λ o. o .number) q ∙ z))
+use Rattle.state.proofs.Calls.{step-accepted, step-taken, step-applies, run-refused}
 
 -- what a JSRWP leaves: WP at the bank that its word names, and the context in register zero of that bank
 plan-enter : (e : Env) (s : State) → kindAt e s ≡ enter-bank → planAt e s ≡ enterBankPlan (viewOf e s) (partsAt e s)

@@ -25,6 +25,7 @@ use Rattle.state.specs.Stops.{stop8, stop27, stops9to15, stops, partsAt,
 use Rattle.state.specs.Step.{Outcome, refused, number, applied, planAt, advanceOf, stepOf}
 use Rattle.state.specs.Run.{Run, ended, after, runOf, runCall}
 use Rattle.state.specs.Loaded.{Movx, to-memory, from-memory, Reached, loadedAfter, loadedAlong, Remembers}
+use Rattle.state.proofs.Calls.{advance-applies, step-applies}
 
 -- the mark that a plan leaves
 
@@ -68,21 +69,12 @@ plan-loaded v i leave-special = refl
 -- and so a step that is carried out
 
 advance-loaded : (e : Env) (s : State) → advanceOf e s .number ≡ 0 → advanceOf e s .state .core .loaded ≡ loadedAfter (kindAt e s) (s .core .loaded)
-unfolding advanceOf applied planAt
-advance-loaded e s =
-    either (λ (o : Outcome). o .number ≡ 0 → o .state .core .loaded ≡ loadedAfter (kindAt e s) (s .core .loaded)) (eqb (number e s) 0) _
-    (refused (number e s) s)
-    (λ t z. plan-loaded (viewOf e s) (partsAt e s) (kindAt e s))
-    (λ f z. absurd (f (eq→eqb (number e s) 0 z)))
+unfolding applied planAt
+advance-loaded e s z = ap (λ t. t .core .loaded) (advance-applies e s z .made) ∙ plan-loaded (viewOf e s) (partsAt e s) (kindAt e s)
 
 step-loaded : (e : Env) (s : State) → stepOf e s .number ≡ 0 → stepOf e s .state .core .loaded ≡ loadedAfter (kindAt e s) (s .core .loaded)
-unfolding stepOf
-step-loaded e s =
-    let n = first-failing (guards e s) in
-    either (λ (o : Outcome). o .number ≡ 0 → o .state .core .loaded ≡ loadedAfter (kindAt e s) (s .core .loaded)) (eqb n 0) (advanceOf e s)
-    (refused n s)
-    (λ t z. advance-loaded e s z)
-    (λ f z. absurd (f (eq→eqb n 0 z)))
+unfolding applied planAt
+step-loaded e s z = ap (λ t. t .core .loaded) (step-applies e s z .made) ∙ plan-loaded (viewOf e s) (partsAt e s) (kindAt e s)
 
 -- and a run
 

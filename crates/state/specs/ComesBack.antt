@@ -65,7 +65,7 @@ abbrev pub ComesBack : Type 0
 ComesBack = (e : Env) (s t : State) → Switch e s t → Restored s (afterStep e t)
 
 -- Beside it: what a JSRWP sets and stores, and that a RETWP goes by register zero of its bank and by nothing else, whatever wrote it. So a routine that
--- overwrites it does not come back: it goes where that word says.
+-- overwrites it goes where the new word says, which need not be back.
 
 -- u is in the bank of this unit, "WP/16", and its register zero has the context of s
 pub record Entered (unit : ℕ) (s u : State) : Type 0 where
