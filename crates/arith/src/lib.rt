@@ -1,5 +1,7 @@
 // Word arithmetic of the YAM core, once over the word width W: every operation of ALU levels 0 to 2, MUL and the immediates.
 // A word of W bits is a number below 2^W; a flag is a number, 0 or 1. Section numbers are the YAM manual's, 1.4.
+#![tactic(auto)]
+
 mod bytes;
 mod immediates;
 mod logic;
@@ -27,7 +29,7 @@ use width::{bits_of, truncate};
 use words::{Form, Operation};
 
 // A result and the flags that the instruction sets where its bit 26 is 0.
-#[derive(Drop)]
+#[derive(Clone, Copy)]
 pub struct Word {
     pub value: u32,
     pub z: u64,
@@ -35,7 +37,7 @@ pub struct Word {
 }
 
 // MUL's result, and what SPR7 takes.
-#[derive(Drop)]
+#[derive(Clone, Copy)]
 pub struct Product {
     pub value: u32,
     pub high: u32,

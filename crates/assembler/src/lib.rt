@@ -1,4 +1,5 @@
 // Source text read into words (document 02, K1).
+#![tactic(auto)]
 
 mod bytes;
 mod columns;
@@ -16,7 +17,7 @@ pub use source::assemble;
 use words::Instruction;
 
 // What `assemble` answers: document 02's number, 0 for a pass; the line that it names, 0 where it names none; how many words were written.
-#[derive(Drop)]
+#[derive(Clone, Copy)]
 pub struct Assembled {
     pub number: u32,
     pub line: usize,
@@ -24,7 +25,7 @@ pub struct Assembled {
 }
 
 // What reading a line gives.
-#[derive(Drop)]
+#[derive(Clone, Copy)]
 enum Parsed {
     Found(Instruction),
     Unread,

@@ -17,7 +17,7 @@ use crate::writing::word_at;
 use words::Config;
 
 // What a line gives: whether it counts as a word; then its word, or the number of its refusal.
-#[derive(Drop)]
+#[derive(Clone, Copy)]
 pub struct LineWord {
     pub counted: bool,
     pub number: u32,

@@ -7,7 +7,7 @@ use crate::bytes::{COLON, SPACE, byte_at, letters_in};
 use crate::labels::label_key;
 
 // How many small letters a line starts with, and its label as a number (labels.rt), 0 where it starts with none.
-#[derive(Drop)]
+#[derive(Clone, Copy)]
 pub struct Opening {
     pub letters: usize,
     pub key: u64,

@@ -27,7 +27,7 @@ const FIFTH: usize = 4;
 const LONGEST: usize = 16;
 
 // A word, or the number of a refusal, beside which the word is 0.
-#[derive(Drop)]
+#[derive(Clone, Copy)]
 pub struct Outcome {
     pub number: u32,
     pub word: u32,

@@ -12,6 +12,8 @@
 //      another than the byte's before it
 // A source has at most 16,384 bytes, and 64 words are lent at most: what is beyond is left out.
 // From # to the end of a line is a comment, which is printed as it stands.
+#![tactic(auto)]
+
 ghost use Rattle.std.specs.Prelude.{◌≤◌};
 
 mod input;

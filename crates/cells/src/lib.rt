@@ -1,4 +1,6 @@
 // Cells: a word decoded once to one number, which the machine's loop carries out without a look at the word (specs/Cell.antt).
+#![tactic(auto)]
+
 ghost use Rattle.std.specs.Prelude.{◌≡◌, ◌<◌};
 ghost use Rattle.cells.specs.Cell.{action_in, flag_in, destination_in, source_in, value_in, taken_in, cycles_in};
 

@@ -7,7 +7,7 @@ ghost use Rattle.words.specs.Packed.{Tables};
 use words::{Config, Reading};
 
 // What reading a word answers, its source register and value, and its row's packed facts.
-#[derive(Drop)]
+#[derive(Clone, Copy)]
 pub struct Parts {
     pub number: u32,
     pub source: u32,

@@ -1,4 +1,5 @@
 // The image file of document 01: loading one, and writing one.
+#![tactic(auto)]
 
 mod blocks;
 pub mod loading;
@@ -9,7 +10,7 @@ pub use storing::store;
 use words::Config;
 
 // Document 01's number, 0 for a pass, and the configuration; beside a refusal it is all zeros.
-#[derive(Drop)]
+#[derive(Clone, Copy)]
 pub struct Loaded {
     pub number: u32,
     pub config: Config,

@@ -8,6 +8,8 @@
 //   s  stores the configuration and the slice into the file: prints the number, and the words of the file that are not as they were before
 // A call keeps what it leaves for the next one. A file holds at most 2,048 bytes, a slice at most 512 words: what is beyond is left out.
 // From # to the end of a line is a comment, which is printed as it stands.
+#![tactic(auto)]
+
 mod buffers;
 mod cases;
 mod input;

@@ -1,4 +1,5 @@
 // Stepping and running the machine.
+#![tactic(auto)]
 
 mod advance;
 mod exec;
@@ -12,14 +13,14 @@ use state::{Change, Core, Machine};
 pub use stepping::{run, run_lent, step, step_lent};
 
 // What the word at PC does by its cell: its change or stop, and, where it is not stopped, its cycles.
-#[derive(Drop)]
+#[derive(Clone, Copy)]
 struct Decision {
     pub cycles: u64,
     pub change: Change,
 }
 
 // What one step gives beside the memories; a stop from 256 on says that it is made apart.
-#[derive(Drop)]
+#[derive(Clone, Copy)]
 struct Turn {
     pub stop: u32,
     pub cycles: u64,
@@ -27,7 +28,7 @@ struct Turn {
 }
 
 // What steps give beside the memories.
-#[derive(Drop)]
+#[derive(Clone, Copy)]
 struct Turns {
     pub stop: u32,
     pub steps: u64,
@@ -36,7 +37,7 @@ struct Turns {
 }
 
 // What a step answers: document 01's number, 0 for a pass; its cycles; and the machine, unchanged where the number is not 0.
-#[derive(Drop)]
+#[derive(Clone, Copy)]
 pub struct Stepped {
     pub number: u32,
     pub cycles: u64,
@@ -44,7 +45,7 @@ pub struct Stepped {
 }
 
 // What a step on a lent return stack answers.
-#[derive(Drop)]
+#[derive(Clone, Copy)]
 pub struct SteppedCore {
     pub number: u32,
     pub cycles: u64,
@@ -52,7 +53,7 @@ pub struct SteppedCore {
 }
 
 // What a run answers: the number that ended it, 0 for a spent budget; how many steps were done and their cycles; and the machine.
-#[derive(Drop)]
+#[derive(Clone, Copy)]
 pub struct Ran {
     pub number: u32,
     pub steps: u64,
@@ -61,7 +62,7 @@ pub struct Ran {
 }
 
 // What a run on a lent return stack answers.
-#[derive(Drop)]
+#[derive(Clone, Copy)]
 pub struct RanCore {
     pub number: u32,
     pub steps: u64,

@@ -1,4 +1,6 @@
 // Opening an image file as the programs do, which hold 8,192 words: past 34,304 bytes, the file of so many, a file is refused by 2.
+#![tactic(auto)]
+
 ghost use Rattle.std.specs.Prelude.{◌≡◌};
 ghost use Rattle.opening.specs.Opening.{open_of, opened, number_of, Counted};
 

@@ -1,5 +1,6 @@
 // What an instruction of each kind changes, from the values that it reads. Every function is total: a sum that 64 bits do not hold wraps, and the promise
 // says so (`up`); machine, which has the core in its ranges, knows that none does.
+#![tactic(auto)]
 
 pub mod context;
 mod plans;
@@ -14,7 +15,7 @@ pub use values::{special_register, top_of, value_at};
 
 // What an ALU instruction computes with: the cell of its destination register, that register's value,
 // and the second operand.
-#[derive(Drop)]
+#[derive(Clone, Copy)]
 pub struct Operands {
     pub at: usize,
     pub d: u32,

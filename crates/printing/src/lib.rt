@@ -1,5 +1,7 @@
 // Writers of bytes on a lent page that take any page and any place (specs/Puts.antt): a writer without room answers a place beyond the page, and so does
 // every writer from such a place on.
+#![tactic(auto)]
+
 ghost use Rattle.std.specs.Prelude.{◌<◌, ◌≤◌, ◌+◌, ◌≡◌, leb, length, get_or};
 ghost use Rattle.syntax.specs.Digits.{digit, hex};
 ghost use Rattle.text.specs.Pages.{Wrote};

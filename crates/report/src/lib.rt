@@ -1,5 +1,6 @@
 // What the commands run and trace print of a machine: the report of a run, and the line of a step (docs/commands.md). All writers take any page and any
 // place (printing/specs/Puts.antt).
+#![tactic(auto)]
 
 mod cells;
 mod fields;

@@ -1,5 +1,6 @@
 // The machine record of the YAM core and what a step does to it: types, small helpers that hand the new record back, and, in specs/, the definitions of
 // a step and a run with what is proved of them.
+#![tactic(auto)]
 
 pub mod helpers;
 
@@ -7,7 +8,7 @@ pub mod helpers;
 // a port write and `port` its address, `loaded` 1 once an LDYX has run since reset, `saved` the mask that SPR_ON saved, `mode` 1 in special-register
 // mode, `taken` how many inputs (document 01's readings) were taken, `logged` how many places of the output log are filled. Two marks share eight bytes:
 // of a core of 128 bytes the compiled loop copies the whole at every step (docs/landings/K4.md).
-#[derive(Drop)]
+#[derive(Clone, Copy)]
 pub struct Core {
     pub pc: usize,
     pub wp: usize,
@@ -28,14 +29,14 @@ pub struct Core {
 }
 
 // The machine record: the core and the return stack, oldest address first, zeros above.
-#[derive(Drop)]
+#[derive(Clone, Copy)]
 pub struct Machine {
     pub core: Core,
     pub stack: [u32; Machine::STACK_CELLS],
 }
 
 // A write to one cell of a memory, or none.
-#[derive(Drop)]
+#[derive(Clone, Copy)]
 pub struct Write {
     pub on: bool,
     pub at: usize,
@@ -44,7 +45,7 @@ pub struct Write {
 
 // What a step does: the number that stops it, 0 for none; the next core; at most one write to the registers, data memory, return stack and each list of
 // the output log.
-#[derive(Drop)]
+#[derive(Clone, Copy)]
 pub struct Change {
     pub stop: u32,
     pub core: Core,

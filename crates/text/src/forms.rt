@@ -8,7 +8,7 @@ use crate::writers::{put_hex, put_packed, put_pairs};
 use words::Instruction;
 
 // `size` bytes that `bytes` packs, and the low `width` hex digits of `value`.
-#[derive(Drop)]
+#[derive(Clone, Copy)]
 pub struct Piece {
     pub bytes: u64,
     pub size: u8,
@@ -16,7 +16,7 @@ pub struct Piece {
     pub value: u64,
 }
 
-#[derive(Drop)]
+#[derive(Clone, Copy)]
 pub struct Form {
     pub name: Piece,
     pub first: Piece,

@@ -1,4 +1,5 @@
 // Instruction text and the listing of an image.
+#![tactic(auto)]
 
 mod columns;
 mod forms;
@@ -15,14 +16,14 @@ pub use pages::Page;
 pub use texts::text;
 
 // What `text` answers: document 01's number, 0 for a pass, and the place after the text; the given place on a refusal.
-#[derive(Drop)]
+#[derive(Clone, Copy)]
 pub struct Texted {
     pub number: u32,
     pub place: usize,
 }
 
 // What `list` answers: document 01's number, 0 for a pass, the place after the last whole line, and the address of the next.
-#[derive(Drop)]
+#[derive(Clone, Copy)]
 pub struct Listed {
     pub number: u32,
     pub place: usize,

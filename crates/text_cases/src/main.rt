@@ -7,6 +7,8 @@
 //      the next address, then the page
 // A page is filled with full stops before the call, and printed between bars. It has at most 512 bytes, an image 64 words: what is beyond is left out.
 // From # to the end of a line is a comment, which is printed as it stands.
+#![tactic(auto)]
+
 ghost use Rattle.std.specs.Prelude.{◌≤◌};
 
 mod input;

@@ -1,4 +1,5 @@
 // Instruction words of the YAM core: configuration, rows, reading and writing a word.
+#![tactic(auto)]
 
 ghost use Rattle.std.specs.Prelude.{◌≡◌};
 ghost use Rattle.words.specs.Answers.{refusal_number};
@@ -28,7 +29,7 @@ pub use meaning::{facts_in, packed_lent};
 pub use tables::{base_table, class_table, limit_table, option_table, row_table};
 
 // A configuration of the core: the manual's generics under their names, in the order of document 01.
-#[derive(Drop)]
+#[derive(Clone, Copy)]
 pub struct Config {
     pub imwidth: u32,
     pub imsize: u32,
@@ -54,7 +55,7 @@ pub struct Config {
 // An instruction's parts, named after the manual's main frames (5.17.1). `flag` is bit 26 of an ALU word as it stands: 0 updates the flags.
 // `destination` stands in bits 22-16 (also JSRWP's unit, the source of MOV &a,%s, the register of JMP @), `source` in 6-0, `number` is the byte
 // number, `value` the immediate, count, data address, target or JSRWP address. A part that the row does not use is zero.
-#[derive(Drop)]
+#[derive(Clone, Copy)]
 pub struct Instruction {
     pub row: u32,
     pub flag: u32,
@@ -65,7 +66,7 @@ pub struct Instruction {
 }
 
 // The three forms of a 16-bit immediate: #, > and < in the manual's notation.
-#[derive(Drop)]
+#[derive(Clone, Copy)]
 pub enum Form {
     Signed,
     Unsigned,
@@ -73,7 +74,7 @@ pub enum Form {
 }
 
 // What the ALU does. TST, CMP and CMPS are And, Sub and Subs whose result is not written; a byte operation holds its byte number.
-#[derive(Drop)]
+#[derive(Clone, Copy)]
 pub enum Operation {
     And,
     Or,
@@ -97,7 +98,7 @@ pub enum Operation {
 }
 
 // The fields of a word by place: bit 26, the number in the low bits of 31-23, bits 22-16, the bits below them, and the value.
-#[derive(Drop)]
+#[derive(Clone, Copy)]
 struct Fields {
     pub row: u32,
     pub flag: u32,
@@ -108,14 +109,14 @@ struct Fields {
 }
 
 // What a word stays below by its check: bits 22-16, and bits 15-0.
-#[derive(Drop)]
+#[derive(Clone, Copy)]
 struct WordLimits {
     pub upper: u64,
     pub lower: u64,
 }
 
 // Document 01's numbers 1, 5, 6 and 7.
-#[derive(Drop)]
+#[derive(Clone, Copy)]
 pub enum Refusal {
     Unlawful,
     NoRow,
@@ -137,20 +138,20 @@ impl Refusal {
     }
 }
 
-#[derive(Drop)]
+#[derive(Clone, Copy)]
 pub enum Reading {
     Decoded(Instruction),
     Refused(Refusal),
 }
 
-#[derive(Drop)]
+#[derive(Clone, Copy)]
 pub enum Writing {
     Encoded(u32),
     Refused(Refusal),
 }
 
 // What rules, stops, cycles and text ask of an instruction (specs/Facts.antt).
-#[derive(Drop)]
+#[derive(Clone, Copy)]
 pub struct Facts {
     pub next: bool,
     pub target: bool,

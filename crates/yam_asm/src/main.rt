@@ -2,6 +2,8 @@
 // argument names an image file, whose block 0 is the configuration. A refusal gives the line "refused" with the documents' number, and beside 24, 25,
 // 26, 6 and 7 "line" with the source's line; so does, with 2, an image file past 34,304 bytes (67 blocks, the file of 8,192 words) or a source past
 // 1,048,576 bytes. What cannot be opened, read or written is said on standard error.
+#![tactic(auto)]
+
 ghost use Rattle.std.specs.Prelude.{◌≡◌, ◌≤◌};
 ghost use Rattle.io.specs.Counts.{IsPrefixLen};
 ghost use Rattle.yam_asm.specs.Making.{made, made_of};

@@ -1,4 +1,6 @@
 // The C interface: exported functions on numbers and slices; a slice is a pointer and its length. include/yam.h declares them.
+#![tactic(auto)]
+
 ghost use Rattle.std.specs.Prelude.{◌≡◌};
 ghost use Rattle.words.specs.Answers.{reading_of, writing_of};
 ghost use Rattle.certificate.specs.Answers.{answer_of};

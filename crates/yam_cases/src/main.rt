@@ -18,6 +18,8 @@
 //   u  a run: its budget; prints the number, steps and cycles, then as for a step
 // Lists hold at most 256 words of image, 64 inputs, 64 places of log, 1,024 registers, 2,048 data cells and 63 addresses: what is beyond is left out.
 // From # to the end of a line is a comment, which is printed as it stands.
+#![tactic(auto)]
+
 mod check_cases;
 mod input;
 mod print;

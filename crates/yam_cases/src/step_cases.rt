@@ -9,7 +9,7 @@ use words::Config;
 
 // What a call is given beside the lists, and how much of each list is lent: image, inputs, register memory, data memory, the log's addresses
 // and values.
-#[derive(Drop)]
+#[derive(Clone, Copy)]
 pub struct Setting {
     pub config: Config,
     pub machine: Machine,

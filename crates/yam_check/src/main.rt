@@ -1,6 +1,8 @@
 // Checks an image file against its certificate (document 01's sheet): the image file stands on standard input, the argument names the certificate, a byte
 // an address. It prints "passes level" and the level at address 0, or the line of a refusal, and under 17 the address, its rule and the listing's line of
 // that address. specs/Verdict.antt says what is printed. What cannot be read or written is said on standard error.
+#![tactic(auto)]
+
 ghost use Rattle.certificate.specs.Answers.{answer_of};
 ghost use Rattle.printing.specs.Puts.{Puts};
 ghost use Rattle.yam_check.specs.Verdict.{passes_line, broken_lines, verdict_text, verdict_of};

@@ -1,5 +1,7 @@
 // Prints the generics of an image file, which stands on standard input, by their names; with the argument "words" its words. A file that is refused gives
 // the line "refused" with document 01's number (specs/Generics.antt). What cannot be read or written is said on standard error.
+#![tactic(auto)]
+
 ghost use Rattle.parsing.specs.Words.{printed};
 ghost use Rattle.printing.specs.Puts.{Puts};
 ghost use Rattle.yam_config.specs.Claims.{ReadBack};

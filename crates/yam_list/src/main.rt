@@ -1,6 +1,8 @@
 // Prints the listing of an image file: the file stands on standard input, the listing goes to standard output. A file that is refused gives the line
 // "refused" with document 01's number; so does one past 34,304 bytes (67 blocks, the file of 8,192 words), with 2. specs/Printing.antt says what is printed.
 // What cannot be read or written is said on standard error.
+#![tactic(auto)]
+
 ghost use Rattle.std.specs.Prelude.{◌≡◌, ◌<◌, take};
 ghost use Rattle.text.specs.Claims.{Lists, lines_to_end};
 ghost use Rattle.printing.specs.Numerals.{refusal_line};
@@ -20,7 +22,7 @@ const PAGE_BYTES: usize = 65536;
 const REFUSAL_BYTES: usize = 11;
 
 // How many bytes of a page were filled, the address of the next line, and whether more is to come.
-#[derive(Drop)]
+#[derive(Clone, Copy)]
 struct Printed {
     bytes: usize,
     next: usize,

@@ -1,6 +1,8 @@
 // Packs: named generics (CONFIG) stand on standard input, the argument names a file of hex words, one a line (WORDS); the image file of the two goes to
 // standard output. A text that is not in its form gives a line "malformed", a refusal the line "refused" with document 01's number (specs/Packing.antt). What
 // cannot be opened, read or written is said on standard error.
+#![tactic(auto)]
+
 ghost use Rattle.std.specs.Prelude.{◌≡◌, ◌≤◌, length, take};
 ghost use Rattle.laws.specs.First.{first_failing};
 ghost use Rattle.image.specs.File.{file_size};
@@ -25,7 +27,7 @@ const BLOCK_BYTES: usize = 512;
 const BLOCK_WORDS: usize = 126;
 
 // What comes of the two texts: a text above so many bytes, a malformed entry or line, a refusal, or a file of so many bytes.
-#[derive(Drop)]
+#[derive(Clone, Copy)]
 enum Outcome {
     Length(usize),
     Entry(usize),

@@ -1,6 +1,8 @@
 // Runs an image file from reset, with zeroed memories, and prints the report of the run; with "trace" a line for each step before it. The image file
 // stands on standard input; the arguments are "run" or "trace", the steps, and the file of the inputs (document 01's readings) where there are any.
 // specs/Running.antt and the specs of `report` say what is printed. What cannot be read or written is said on standard error.
+#![tactic(auto)]
+
 ghost use Rattle.std.specs.Prelude.{◌≡◌, [], length};
 ghost use Rattle.machine.specs.Stepping.{machine_state, ran_end, end_of};
 ghost use Rattle.printing.specs.Puts.{Puts};
@@ -41,7 +43,7 @@ const LINE_BYTES: usize = 64;
 const BUDGET: u32 = 16;
 
 // A step: document 01's number, its cycles, the machine then, and how many bytes of the page its line has.
-#[derive(Drop)]
+#[derive(Clone, Copy)]
 struct Traced {
     number: u32,
     cycles: u64,

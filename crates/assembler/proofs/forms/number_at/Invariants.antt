@@ -1,0 +1,15 @@
+-- `assembler::forms::number_at` meets its contract. Assumes nothing.
+use Prim.Native.Nat.{◌+◌, ◌-◌, ◌*◌, ◌^◌, ◌≤◌}
+use mathlib.Core.Path.{◌≡◌, refl}
+use borrow.Author.Rules.{rules}
+use native.Mathlib.Omega.{arith}
+use lib.ListN.{drop}
+use Rattle.syntax.specs.Pieces.{number_in}
+use Rattle.assembler.proofs.forms.Laws.{pow_small, number_more, bound_more, number_done}
+use Rattle.assembler.proofs.forms.number_at.Given as goal
+
+abbrev pub invariant-loop-j : goal.invariant-loop-j
+invariant-loop-j l = (l.j ≤ l.w) × (l.m ≡ number_in l.j (drop l.at l.t)) × (l.m + 3 ≤ 3 * 16 ^ l.j)
+
+abbrev pub decreases-loop-j : goal.decreases-loop-j
+decreases-loop-j l = l.w - l.j

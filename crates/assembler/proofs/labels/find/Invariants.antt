@@ -1,0 +1,11 @@
+-- `assembler::labels::find` meets its contract. Assumes nothing.
+use native.Mathlib.Omega.{arith}
+use borrow.Author.Rules.{rules}
+use Rattle.assembler.proofs.labels.Laws.{Sought, sought_first, sought_next, sought_found, sought_none}
+use Rattle.assembler.proofs.labels.find.Given as goal
+
+abbrev pub invariant-loop-k : goal.invariant-loop-k
+invariant-loop-k l = Sought l.keys l.n l.x l.k
+
+abbrev pub decreases-loop-k : goal.decreases-loop-k
+decreases-loop-k l = l.k

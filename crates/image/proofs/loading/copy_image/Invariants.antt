@@ -1,0 +1,12 @@
+-- `image::loading::copy_image` meets its contract. Assumes nothing.
+use Rattle.std.proofs.Common.{◌≡◌, ◌+◌, ◌-◌, ◌*◌, ◌≤◌, length, sym, refl, ap, ◌∙◌, arith, rules}
+use lib.Seq.{sets, length-sets}
+use Rattle.image.specs.File.{image_words}
+use Rattle.image.proofs.loading.Laws.{block_next, blocks_start, blocks_end}
+use Rattle.image.proofs.loading.copy_image.Given as goal
+
+abbrev pub invariant-loop-b : goal.invariant-loop-b
+invariant-loop-b l = (l.b * 126 ≤ l.n + 125) × (length l.image ≡ length l.initial.image) × (sets l.image (l.b * 126) (image_words l.file (l.b * 126) (l.n - l.b * 126)) ≡ sets l.initial.image 0 (image_words l.file 0 l.n))
+
+abbrev pub decreases-loop-b : goal.decreases-loop-b
+decreases-loop-b l = l.n + 126 - l.b * 126

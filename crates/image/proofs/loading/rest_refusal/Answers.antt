@@ -1,0 +1,29 @@
+-- `image::loading::rest_refusal` meets its contract. Assumes nothing.
+use Rattle.std.proofs.Common.{◌≡◌, ◌-◌, ◌≤◌, length, sym, ◌∙◌, arith, rules, eq-eqb, ne_eqb, le-leb}
+use borrow.Author.Tests.{not-true, not-false, lt-leb}
+use Rattle.laws.specs.Choice.{pick}
+use Rattle.laws.specs.First.{first_failing}
+use Rattle.image.specs.File.{blocks_for, file_size}
+use Rattle.image.specs.Loading.{blocks_tests}
+use Rattle.image.proofs.loading.Laws.{rest_is, zero_filling}
+use Rattle.image.proofs.loading.rest_refusal.Goals as goal
+
+pub returns-then-file-blocks : goal.returns-then-file-blocks
+unfolding pick
+returns-then-file-blocks c = rw (rest_is, ne_eqb (length c.args.file.now) (file_size c.args.n) (λ e. c.if-file-blocks.true (omega (arith, c.blocks_for-blocks.ensures))))
+
+pub returns-then-len-n : goal.returns-then-len-n
+unfolding pick
+returns-then-len-n c = let l : length c.args.file.now ≡ file_size c.args.n = omega (arith, c.blocks_for-blocks.ensures) in rw (rest_is, eq-eqb _ _ l, lt-leb _ _ c.if-len-n.true)
+
+pub returns-then-bad-ne0 : goal.returns-then-bad-ne0
+unfolding pick
+returns-then-bad-ne0 c = let l : length c.args.file.now ≡ file_size c.args.n = omega (arith, c.blocks_for-blocks.ensures) in let h : c.args.n ≤ c.args.len = omega arith in rw (rest_is, eq-eqb _ _ l, le-leb _ _ h, ne_eqb (first_failing (blocks_tests c.args.file.now 1 (blocks_for c.args.n))) 0 (λ e. c.if-bad-ne0.true ((rw c.blocks_for-blocks.ensures at c.blocks_refusal-bad.ensures) ∙ e))) (rw c.blocks_for-blocks.ensures at c.blocks_refusal-bad.ensures)
+
+pub returns-then-not-zero_words : goal.returns-then-not-zero_words
+unfolding pick
+returns-then-not-zero_words c = let l : length c.args.file.now ≡ file_size c.args.n = omega (arith, c.blocks_for-blocks.ensures) in let h : c.args.n ≤ c.args.len = omega arith in let b : first_failing (blocks_tests c.args.file.now 1 (blocks_for c.args.n)) ≡ 0 = sym (rw c.blocks_for-blocks.ensures at c.blocks_refusal-bad.ensures) ∙ omega arith in let z = zero_filling c.args.file.now c.args.n _ _ c.requires.0 c.blocks_for-blocks.ensures c.zero_words.ensures in rw (rest_is, eq-eqb _ _ l, le-leb _ _ h, b, sym z ∙ not-true c.zero_words.result c.if-not-zero_words.true-raw)
+
+pub returns : goal.returns
+unfolding pick
+returns c = let l : length c.args.file.now ≡ file_size c.args.n = omega (arith, c.blocks_for-blocks.ensures) in let h : c.args.n ≤ c.args.len = omega arith in let b : first_failing (blocks_tests c.args.file.now 1 (blocks_for c.args.n)) ≡ 0 = sym (rw c.blocks_for-blocks.ensures at c.blocks_refusal-bad.ensures) ∙ omega arith in let z = zero_filling c.args.file.now c.args.n _ _ c.requires.0 c.blocks_for-blocks.ensures c.zero_words.ensures in rw (rest_is, eq-eqb _ _ l, le-leb _ _ h, b, sym z ∙ not-false c.zero_words.result c.if-not-zero_words.false-raw)

@@ -1,0 +1,9 @@
+-- `machine::stepping::step` meets its contract. Assumes nothing.
+use mathlib.Core.Path.{◌≡◌}
+use lib.ListN.{length}
+use borrow.Author.Rules.{rules}
+use Rattle.machine.proofs.stepping.step_lent.Reads as step-lent-reads
+use Rattle.machine.proofs.stepping.step.Goals as goal
+
+pub returns : goal.returns
+returns c = let g = c.well-formed.1.1.1.0 in let h : length c.args.m.stack ≡ 63 = search rules in c.step_lent-r.ensures.fits h

@@ -1,0 +1,19 @@
+-- `machine::turning::turning` meets its contract. Assumes nothing.
+use native.Mathlib.Omega.{arith}
+use Prim.Native.Nat.{◌≤◌, ◌-◌}
+use mathlib.Core.Path.{◌≡◌, refl, ap, ◌∙◌}
+use lib.ListN.{length}
+use Rattle.state.specs.State.{env, state}
+use Rattle.cells.specs.Cell.{cell_of}
+use Rattle.machine.specs.Cached.{Cached}
+use Rattle.machine.specs.Stretching.{Reached}
+use Rattle.machine.proofs.stretching.Laws.{reached_start, reached_join, reached_done, run_ends, image_ends}
+use Rattle.machine.proofs.single.Laws.{past_image}
+use borrow.Author.Rules.{rules}
+use Rattle.machine.proofs.turning.turning.Given as goal
+
+abbrev pub invariant-loop-done : goal.invariant-loop-done
+invariant-loop-done l = Reached (env l.c l.image l.inputs) (state l.initial.core l.initial.stack l.initial.registers l.initial.memory l.initial.addresses l.initial.values) (state l.core l.stack l.registers l.memory l.addresses l.values) l.done l.cycles × (l.done ≤ l.budget) × Cached l.c l.image l.mask l.cells × (length l.cells ≡ length l.initial.cells)
+
+abbrev pub decreases-loop-done : goal.decreases-loop-done
+decreases-loop-done l = l.budget - l.done

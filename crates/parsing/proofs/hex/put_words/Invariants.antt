@@ -1,0 +1,17 @@
+-- `parsing::hex::put_words` meets its contract. Assumes nothing.
+use borrow.Author.Rules.{rules}
+use native.Mathlib.Omega.{arith}
+use Prim.Native.Nat.{◌-◌, ◌≤◌}
+use mathlib.Core.Path.{◌≡◌}
+use lib.ListN.{length}
+use mathlib.Core.Path.{◌≡◌, ap, ◌∙◌}
+use lib.ListN.{length-set}
+use borrow.Author.Tests.{not-false}
+use Rattle.parsing.proofs.hex.Laws.{Passed, passed_none, passed_more, passed_bad, passed_all}
+use Rattle.parsing.proofs.hex.put_words.Given as goal
+
+abbrev pub invariant-loop-i : goal.invariant-loop-i
+invariant-loop-i l = (length l.words ≡ length l.initial.words) × Passed l.text l.initial.words l.words l.count l.i
+
+abbrev pub decreases-loop-i : goal.decreases-loop-i
+decreases-loop-i l = length l.text - l.i

@@ -1,0 +1,16 @@
+-- `plans::plans::index_load` meets its contract. Assumes nothing.
+use Rattle.laws.specs.Choice.{pick}
+use Rattle.std.proofs.Common.{rules, le-ltb, lt-ltb, eq-eqb, ne_eqb}
+use Rattle.plans.proofs.plans.index_load.Goals as goal
+
+pub returns-then-m-eq0 : goal.returns-then-m-eq0
+unfolding pick
+returns-then-m-eq0 c = rw (eq-eqb _ _ c.if-m-eq0.true, c.stopped.ensures)
+
+pub returns-then-t-memory : goal.returns-then-t-memory
+unfolding pick
+returns-then-t-memory c = rw (ne_eqb _ _ c.if-m-eq0.false, lt-ltb _ _ c.if-t-memory.true, c.to_register.ensures, c.index_core.ensures, c.value_at.ensures)
+
+pub returns : goal.returns
+unfolding pick
+returns c = rw (ne_eqb _ _ c.if-m-eq0.false, le-ltb _ _ c.if-t-memory.false, c.stopped-2.ensures)

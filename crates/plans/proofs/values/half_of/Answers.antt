@@ -1,0 +1,17 @@
+-- `plans::values::half_of` meets its contract. Assumes nothing.
+use Rattle.std.proofs.Common.{arith, ne_eqb}
+use Rattle.laws.specs.Choice.{pick}
+use Rattle.arith.specs.Width.{bits}
+use Rattle.plans.proofs.values.half_of.Goals as goal
+
+pub returns-in-8 : goal.returns-in-8
+unfolding bits pick
+returns-in-8 c = ((rw c.in-8.is), omega arith)
+
+pub returns-in-16 : goal.returns-in-16
+unfolding bits pick
+returns-in-16 c = ((rw c.in-16.is), omega arith)
+
+pub returns-in_default : goal.returns-in_default
+unfolding bits pick
+returns-in_default c = ((simp (ne_eqb _ _ c.in_default.in_default-own.rest.1, ne_eqb _ _ c.in_default.in_default-own.rest.0.1)), omega arith)

@@ -1,0 +1,14 @@
+-- `printing::digit_of` meets its contract. Assumes nothing.
+use Rattle.laws.specs.Choice.{pick}
+use Rattle.syntax.specs.Digits.{digit}
+use borrow.Author.Tests.{lt-ltb, le-ltb}
+use borrow.Author.Rules.{rules}
+use Rattle.printing.proofs.digit_of.Goals as goal
+
+pub returns-then-d-lt10 : goal.returns-then-d-lt10
+unfolding digit pick
+returns-then-d-lt10 c = rw (lt-ltb _ 10 c.if-d-lt10.true)
+
+pub returns-else-d-lt10 : goal.returns-else-d-lt10
+unfolding digit pick
+returns-else-d-lt10 c = rw (le-ltb _ 10 c.if-d-lt10.false)

@@ -1,0 +1,19 @@
+-- `printing::store_bytes` meets its contract. Assumes nothing.
+use Prim.Native.Nat.{◌-◌, ◌+◌, ◌≤◌}
+use mathlib.Core.Path.{◌≡◌, refl}
+use native.Mathlib.Nat.{add-zero}
+use native.Mathlib.Omega.{arith}
+use lib.ListN.{length, length-set, drop}
+use lib.Seq.{sets}
+use borrow.Author.Rules.{rules}
+use Rattle.printing.proofs.Puts.{byte_next, bytes_done}
+use Rattle.printing.proofs.store_bytes.Goals as goal
+
+pub loop-i-init : goal.loop-i-init
+loop-i-init c = (omega arith, refl, rw add-zero)
+
+pub loop-i-preserved : goal.loop-i-preserved
+loop-i-preserved c = (omega arith, simp length-set c.loop-i.invariant.1, byte_next c.loop-i.page c.args.page.now c.args.bytes.now c.args.at c.loop-i.i (omega arith) c.loop-i.invariant.2)
+
+pub returns : goal.returns
+returns c = bytes_done _ _ _ _ c.loop-i.i (omega arith) (omega arith) c.loop-i.invariant.2

@@ -1,0 +1,10 @@
+-- `report::cells::put_line_end` meets its contract. Assumes nothing.
+use Rattle.report.proofs.Texts.{no_end, has_end}
+use borrow.Author.Rules.{rules}
+use Rattle.report.proofs.cells.put_line_end.Goals as goal
+
+pub returns-then-i : goal.returns-then-i
+returns-then-i c = no_end _ _ c.args.i c.if-i.true
+
+pub returns : goal.returns
+returns c = has_end c.args.i c.if-i.false c.put_bytes.ensures

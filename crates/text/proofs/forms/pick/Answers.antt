@@ -1,0 +1,11 @@
+-- `text::forms::pick` meets its contract. Assumes nothing.
+use Rattle.laws.specs.Choice.{pick}
+use Rattle.text.proofs.forms.pick.Goals as goal
+
+pub returns-then-b : goal.returns-then-b
+unfolding pick
+returns-then-b c = rw c.if-b.true
+
+pub returns-else-b : goal.returns-else-b
+unfolding pick
+returns-else-b c = rw c.if-b.false

@@ -1,0 +1,16 @@
+-- `text::writers::put_pairs` meets its contract. Assumes nothing.
+use Prim.Native.Nat.{◌%◌, ◌≤◌}
+use mathlib.Core.Path.{◌≡◌, refl}
+use lib.ListN.{length, length-set}
+use lib.Seq.{sets}
+use Rattle.syntax.specs.Digits.{digit, hex}
+use native.Mathlib.Omega.{arith}
+use Rattle.text.proofs.Spelled.{digits_done}
+use Rattle.text.proofs.writers.Laws.{pair_at, pair_next, digit_last}
+use Rattle.text.proofs.writers.put_pairs.Given as goal
+
+abbrev pub invariant-loop-i : goal.invariant-loop-i
+invariant-loop-i l = (l.i ≤ l.w) × (length l.page ≡ length l.initial.page) × (sets l.page l.at (hex l.i l.m) ≡ sets l.initial.page l.at (hex l.w l.n))
+
+abbrev pub decreases-loop-i : goal.decreases-loop-i
+decreases-loop-i l = l.i

@@ -1,0 +1,8 @@
+-- `words::decode::below_limits` meets its contract. Assumes nothing.
+use Rattle.words.specs.Lookup.{below_lent}
+use borrow.Author.Rules.{rules}
+use Rattle.words.proofs.decode.below_limits.Goals as goal
+
+pub returns : goal.returns
+unfolding below_lent
+returns c = rw (c.limit_at-2.ensures, c.limit_at.ensures, c.base_at-t.ensures)
