@@ -2,7 +2,7 @@
 use Rattle.std.specs.Prelude.{ℕ, List, [], ◌∷◌, get_or}
 use Rattle.words.specs.declared.Form.TheVariants.{Signed, Unsigned, Shifted}
 use Rattle.words.specs.declared.Operation.TheVariants.{And, Or, Xor, Add, Addc, Sub, Subc, Subs, Shl, Shr, Shra, Rotl, Rotr, Shl16, Abs, Clz, Bst, Bld, Blds}
-use Rattle.words.specs.Parts.{Part, flag, coprocessor, register, mask, immediate}
+use Rattle.words.specs.Parts.{Part, coprocessor, register, mask, immediate}
 use Rattle.words.specs.Parts.{Option, always, mult, level1, level2, level2_memory, memory, ports, rmw, banks, spr, never}
 use Rattle.words.specs.Kinds.{from_register, literal, short_literal, counted}
 use Rattle.words.specs.Kinds.{Z, NZ, GT, Lt, GE, Le, NIRQ, B0, B1, NB0, NB1, BIO}

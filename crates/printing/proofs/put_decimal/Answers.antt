@@ -6,4 +6,4 @@ use Rattle.printing.proofs.Puts.{put_as}
 use Rattle.printing.proofs.put_decimal.Goals as goal
 
 pub returns : goal.returns
-returns c = put_as (decimal_is c.args.n _ _ c.ranges.n c.decimal-k.ensures.1.0 c.decimal-k.ensures.1.1) c.put_bytes.ensures
+returns c = put_as (decimal_is c.args.n _ _ c.ranges.n.fits c.decimal-k.ensures.1.0 c.decimal-k.ensures.1.1) c.put_bytes.ensures

@@ -17,4 +17,4 @@ overflow_sub-below c = omega (arith, pow_pos (8 * c.args.k), c.power.ensures)
 
 pub returns : goal.returns
 unfolding bst_of
-returns c = rw (c.of_byte.ensures, c.truncate_wide.ensures, c.power.ensures, bst_code _ _ _ c.requires.1 c.ranges.d (byte_lt c.args.s))
+returns c = rw (c.of_byte.ensures, c.truncate_wide.ensures, c.power.ensures, bst_code _ _ _ c.requires.1 c.ranges.d.fits (byte_lt c.args.s))

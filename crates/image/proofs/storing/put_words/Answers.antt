@@ -8,7 +8,7 @@ use Rattle.image.proofs.blocks.Laws.{sum_from, sum_next, sum_end}
 use Rattle.image.proofs.storing.put_words.Goals as goal
 
 pub loop-i-init : goal.loop-i-init
-loop-i-init c = (omega arith, refl, put_start _ _ _ _ _, omega (arith, c.ranges.sum), sum_from _ _ _ _)
+loop-i-init c = (omega arith, refl, put_start _ _ _ _ _, omega (arith, c.ranges.sum.fits), sum_from _ _ _ _)
 
 pub loop-i-preserved : goal.loop-i-preserved
 loop-i-preserved c = (omega arith, (ap length c.put_word.ensures ∙ simp length-sets c.loop-i.invariant.1), rw (c.put_word.ensures, c.word_or_zero-w.ensures) (put_next _ _ _ _ _ _ (omega arith) ∙ c.loop-i.invariant.2), omega (arith, c.wrapping_add_u32-s.ensures), rw (c.wrapping_add_u32-s.ensures, c.word_or_zero-w.ensures) (sum_next _ _ _ _ _ (omega arith) ∙ c.loop-i.invariant.4))

@@ -18,4 +18,4 @@ pub shown_form-requires : goal.shown_form-requires
 shown_form-requires c = c.requires.3
 
 pub returns : goal.returns
-returns c = decoded_word c.args.c c.args.w _ _ (read_parts _ _ _ _ _ _ c.args.c c.args.w _ c.requires.0 c.requires.1 c.ranges.w c.row_lent-n.ensures (sym c.word_number-number.ensures.0 ∙ c.if-number-ne0.false) _ c.parts_lent-i.ensures) c.shown_form.ensures
+returns c = decoded_word c.args.c c.args.w _ _ (read_parts _ _ _ _ _ _ c.args.c c.args.w _ c.requires.0 c.requires.1 c.ranges.w.fits c.row_lent-n.ensures (sym c.word_number-number.ensures.0 ∙ c.if-number-ne0.false) _ c.parts_lent-i.ensures) c.shown_form.ensures

@@ -1,6 +1,5 @@
 -- `words::Config::lawful` meets its contract. Assumes nothing.
 use Rattle.words.specs.Configs.{lawful}
-use borrow.Author.Rules.{rules}
 use Rattle.words.proofs.Config.lawful.Goals as goal
 
 pub returns : goal.returns

@@ -1,6 +1,5 @@
 -- `words::Refusal::number` meets its contract. Assumes nothing.
 use Rattle.words.specs.Answers.{refusal_number}
-use borrow.Author.Rules.{rules}
 use Rattle.words.proofs.Refusal.number.Goals as goal
 
 pub returns-in-Unlawful : goal.returns-in-Unlawful

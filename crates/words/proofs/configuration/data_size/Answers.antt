@@ -1,6 +1,5 @@
 -- `words::configuration::data_size` meets its contract. Assumes nothing.
 use Rattle.words.proofs.Configs.{size_right}
-use borrow.Author.Rules.{rules}
 use Rattle.words.proofs.configuration.data_size.Goals as goal
 
 pub returns : goal.returns

@@ -1,5 +1,4 @@
 -- `words::configuration::lawful_memory` meets its contract. Assumes nothing.
-use borrow.Author.Rules.{rules}
 use Rattle.words.proofs.configuration.lawful_memory.Goals as goal
 
 pub returns : goal.returns

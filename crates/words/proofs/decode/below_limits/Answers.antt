@@ -1,6 +1,5 @@
 -- `words::decode::below_limits` meets its contract. Assumes nothing.
 use Rattle.words.specs.Lookup.{below_lent}
-use borrow.Author.Rules.{rules}
 use Rattle.words.proofs.decode.below_limits.Goals as goal
 
 pub returns : goal.returns

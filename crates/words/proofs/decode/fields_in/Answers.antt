@@ -13,7 +13,6 @@ use Rattle.words.specs.Kinds.{unsupported}
 use Rattle.words.specs.Codes.{part_at}
 use Rattle.words.specs.Packed.{unpack}
 use Rattle.words.proofs.Parts.{unused_code, target_code}
-use borrow.Author.Rules.{rules}
 use Rattle.words.proofs.decode.fields_in.Goals as goal
 
 -- the layout by the two tests of what the value part holds

@@ -1,7 +1,6 @@
 -- `words::decode::flag_in` meets its contract. Assumes nothing.
 use native.Mathlib.Omega.{arith}
 use Rattle.words.proofs.Parts.{flag_there, flag_absent}
-use borrow.Author.Rules.{rules}
 use Rattle.words.proofs.decode.flag_in.Goals as goal
 
 pub returns-then-holds-eq-FLAG : goal.returns-then-holds-eq-FLAG

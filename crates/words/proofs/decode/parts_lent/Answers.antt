@@ -1,7 +1,6 @@
 -- `words::decode::parts_lent` meets its contract. Assumes nothing.
 use Rattle.words.specs.Packed.{row_lent, parts_lent}
 use Rattle.words.specs.Words.{fields_in}
-use borrow.Author.Rules.{rules}
 use Rattle.words.proofs.decode.parts_lent.Goals as goal
 
 pub returns : goal.returns

@@ -2,7 +2,6 @@
 use mathlib.Core.Path.{◌∙◌, sym}
 use Rattle.words.specs.Answers.{refusal_number, reading_of}
 use Rattle.words.proofs.Answers.{reads, lawful_read, unlawful_read}
-use borrow.Author.Rules.{rules}
 use Rattle.words.proofs.decode.read_word.Goals as goal
 
 pub returns-then-lawful : goal.returns-then-lawful

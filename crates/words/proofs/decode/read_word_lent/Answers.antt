@@ -1,7 +1,6 @@
 -- `words::decode::read_word_lent` meets its contract. Assumes nothing.
 use mathlib.Core.Path.{◌∙◌}
 use Rattle.words.proofs.Answers.{by_tables}
-use borrow.Author.Rules.{rules}
 use Rattle.words.proofs.decode.read_word_lent.Goals as goal
 
 pub returns : goal.returns

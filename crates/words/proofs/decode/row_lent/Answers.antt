@@ -1,6 +1,5 @@
 -- `words::decode::row_lent` meets its contract. Assumes nothing.
 use Rattle.words.specs.Packed.{number_lent}
-use borrow.Author.Rules.{rules}
 use Rattle.words.proofs.decode.row_lent.Goals as goal
 
 pub returns : goal.returns

@@ -1,5 +1,4 @@
 -- `words::decode::row_of_word` meets its contract. Assumes nothing.
-use borrow.Author.Rules.{rules}
 use Rattle.words.proofs.decode.row_of_word.Goals as goal
 
 pub returns : goal.returns

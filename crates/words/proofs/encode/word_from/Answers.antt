@@ -1,7 +1,6 @@
 -- `words::encode::word_from` meets its contract. Assumes nothing.
 use mathlib.Core.Path.{refl}
 use Rattle.words.specs.Words.{word_from}
-use borrow.Author.Rules.{rules}
 use Rattle.words.proofs.encode.word_from.Goals as goal
 
 pub returns : goal.returns

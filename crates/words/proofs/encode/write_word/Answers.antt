@@ -2,7 +2,6 @@
 use mathlib.Core.Path.{◌∙◌, sym}
 use Rattle.words.specs.Answers.{refusal_number, writing_of}
 use Rattle.words.proofs.Answers.{writes, unlawful_write, lent_writes}
-use borrow.Author.Rules.{rules}
 use Rattle.words.proofs.encode.write_word.Goals as goal
 
 pub returns-then-lawful : goal.returns-then-lawful

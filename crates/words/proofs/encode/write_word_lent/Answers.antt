@@ -2,7 +2,6 @@
 use mathlib.Core.Path.{◌∙◌}
 use Rattle.words.specs.Answers.{refusal_number, writing_of}
 use Rattle.words.proofs.Answers.{by_row, no_row}
-use borrow.Author.Rules.{rules}
 use Rattle.words.proofs.encode.write_word_lent.Goals as goal
 
 pub returns-then-n-lt-ROW_COUNT : goal.returns-then-n-lt-ROW_COUNT

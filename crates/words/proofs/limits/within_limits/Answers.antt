@@ -1,6 +1,5 @@
 -- `words::limits::within_limits` meets its contract. Assumes nothing.
 use Rattle.words.specs.Lookup.{within_limits}
-use borrow.Author.Rules.{rules}
 use Rattle.words.proofs.limits.within_limits.Goals as goal
 
 pub returns : goal.returns

@@ -1,7 +1,6 @@
 -- `words::rows::base_at` meets its contract. Assumes nothing.
 use mathlib.Core.Path.{sym}
 use lib.ListN.{get_or-eq_default}
-use borrow.Author.Rules.{rules}
 use Rattle.words.proofs.rows.base_at.Goals as goal
 
 pub returns-else-at-bases : goal.returns-else-at-bases

@@ -4,7 +4,6 @@ use mathlib.Core.Path.{sym}
 use lib.ListN.{get_or-eq_default}
 use Rattle.words.specs.Classes.{none}
 use Rattle.laws.specs.Lists.{get_d_inside}
-use borrow.Author.Rules.{rules}
 use Rattle.words.proofs.rows.class_at.Goals as goal
 
 pub overflow_cast-result : goal.overflow_cast-result

@@ -2,7 +2,6 @@
 use mathlib.Core.Path.{sym, ◌∙◌}
 use Rattle.words.specs.Classes.{index_rows}
 use Rattle.words.proofs.Digits.{past, low_digits, high_digits}
-use borrow.Author.Rules.{rules}
 use Rattle.words.proofs.rows.index_row.Goals as goal
 
 pub returns-then-n-lt16 : goal.returns-then-n-lt16

@@ -1,7 +1,6 @@
 -- `words::rows::limit_at` meets its contract. Assumes nothing.
 use mathlib.Core.Path.{sym}
 use lib.ListN.{get_or-eq_default}
-use borrow.Author.Rules.{rules}
 use Rattle.words.proofs.rows.limit_at.Goals as goal
 
 pub returns-else-at-limits : goal.returns-else-at-limits

@@ -1,5 +1,4 @@
 -- `words::rows::mask_row` meets its contract. Assumes nothing.
-use borrow.Author.Rules.{rules}
 use Rattle.words.proofs.rows.mask_row.Goals as goal
 
 pub returns : goal.returns

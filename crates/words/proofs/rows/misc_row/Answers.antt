@@ -2,7 +2,6 @@
 use mathlib.Core.Path.{sym}
 use Rattle.words.specs.Classes.{misc_rows}
 use Rattle.words.proofs.Digits.{past, misc_digits}
-use borrow.Author.Rules.{rules}
 use Rattle.words.proofs.rows.misc_row.Goals as goal
 
 pub returns-then-n-lt8 : goal.returns-then-n-lt8

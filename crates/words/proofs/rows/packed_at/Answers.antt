@@ -3,7 +3,6 @@ use mathlib.Core.Path.{sym}
 use lib.ListN.{get_or-eq_default}
 use Rattle.words.specs.Packed.{no_packed}
 use Rattle.laws.specs.Lists.{get_d_inside}
-use borrow.Author.Rules.{rules}
 use Rattle.words.proofs.rows.packed_at.Goals as goal
 
 pub returns-then-at-packs : goal.returns-then-at-packs

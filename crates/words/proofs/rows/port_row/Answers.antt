@@ -2,7 +2,6 @@
 use native.Mathlib.Omega.{arith}
 use Prim.Native.Nat.{◌/◌, ◌%◌}
 use Rattle.words.proofs.Digits.{port_digits}
-use borrow.Author.Rules.{rules}
 use Rattle.words.proofs.rows.port_row.Goals as goal
 
 pub returns : goal.returns

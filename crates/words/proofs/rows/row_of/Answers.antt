@@ -2,7 +2,6 @@
 use Rattle.laws.specs.Choice.{pick}
 use borrow.Author.Tests.{lt-ltb, le-ltb, ne_eqb}
 use Rattle.words.specs.Classes.{choices, field_of, code_at, row_in, row_of}
-use borrow.Author.Rules.{rules}
 use Rattle.words.proofs.rows.row_of.Goals as goal
 
 pub returns-then-c-lt-INDEX : goal.returns-then-c-lt-INDEX

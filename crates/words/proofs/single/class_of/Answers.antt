@@ -1,6 +1,5 @@
 -- `words::single::class_of` meets its contract. Assumes nothing.
 use Rattle.words.proofs.single.Laws.{class_byte}
-use borrow.Author.Rules.{rules}
 use Rattle.words.proofs.single.class_of.Goals as goal
 
 pub returns : goal.returns

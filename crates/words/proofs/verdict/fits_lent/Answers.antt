@@ -1,7 +1,6 @@
 -- `words::verdict::fits_lent` meets its contract. Assumes nothing.
 use native.Mathlib.Omega.{arith}
 use Rattle.words.specs.Packed.{fits_lent}
-use borrow.Author.Rules.{rules}
 use Rattle.words.proofs.verdict.fits_lent.Goals as goal
 
 pub below-flag-requires : goal.below-flag-requires

@@ -1,6 +1,5 @@
 -- `words::verdict::in_range` meets its contract. Assumes nothing.
 use Rattle.words.proofs.Parts.{range_code}
-use borrow.Author.Rules.{rules}
 use Rattle.words.proofs.verdict.in_range.Goals as goal
 
 pub returns : goal.returns

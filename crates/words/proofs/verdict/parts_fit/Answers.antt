@@ -1,7 +1,6 @@
 -- `words::verdict::parts_fit` meets its contract. Assumes nothing.
 use native.Mathlib.Omega.{arith}
 use Rattle.words.specs.Words.{fits}
-use borrow.Author.Rules.{rules}
 use Rattle.words.proofs.verdict.parts_fit.Goals as goal
 
 pub in_range-flag-requires : goal.in_range-flag-requires

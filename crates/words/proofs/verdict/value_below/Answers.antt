@@ -2,7 +2,6 @@
 use mathlib.Core.Path.{refl}
 use Rattle.words.specs.Codes.{part_code}
 use Rattle.words.specs.Packed.{in_limit}
-use borrow.Author.Rules.{rules}
 use Rattle.words.proofs.verdict.value_below.Goals as goal
 
 pub returns : goal.returns
