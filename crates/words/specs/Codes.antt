@@ -5,7 +5,7 @@ use Rattle.words.specs.declared.Form.{Form}
 use Rattle.words.specs.declared.Form.TheVariants.{Signed, Unsigned, Shifted}
 use Rattle.words.specs.Parts.{Part, unused, flag, byte, coprocessor, register, unit, mask, immediate, read_address, write_address, target, count, bank_address, short}
 use Rattle.words.specs.Parts.{Option, always, mult, level1, level2, level2_memory, memory, ports, rmw, banks, spr, never}
-use Rattle.words.specs.Kinds.{Condition, Z, NZ, GT, Lt, GE, Le, BIO}
+use Rattle.words.specs.Kinds.{Condition, Z, NZ, GT, LT, GE, LE, BIO}
 use Rattle.words.specs.Kinds.{Mark, goes_on, jumps, calls, returns, enters_mode, leaves_mode, reveals, reads_port, writes_port, loads, stores, by_register, enters_bank, leaves_bank, barred, by_index}
 
 unfoldable pub part_code : Part → ℕ
@@ -52,7 +52,7 @@ unfoldable pub option_at : ℕ → Option
 option_at n = get_or options n never
 
 abbrev pub conditions : List Condition
-conditions = BIO ∷ Z ∷ NZ ∷ GT ∷ Lt ∷ GE ∷ Le ∷ []
+conditions = BIO ∷ Z ∷ NZ ∷ GT ∷ LT ∷ GE ∷ LE ∷ []
 
 -- the entries of rows that have no condition, or one that no configuration has, are not asked for it
 unfoldable pub condition_at : ℕ → Condition

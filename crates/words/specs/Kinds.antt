@@ -12,7 +12,7 @@ pub data Operand : Type 0 where
 
 -- conditions of JMP, bits 26-23 from 1 on
 pub data Condition : Type 0 where
-  Z NZ GT Lt GE Le NIRQ B0 B1 NB0 NB1 BIO : Condition
+  Z NZ GT LT GE LE NIRQ B0 B1 NB0 NB1 BIO : Condition
 
 pub data Kind : Type 0 where
   unsupported : Kind  -- no configuration has the row

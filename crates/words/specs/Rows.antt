@@ -5,7 +5,7 @@ use Rattle.words.specs.declared.Operation.TheVariants.{And, Or, Xor, Add, Addc, 
 use Rattle.words.specs.Parts.{Part, coprocessor, register, mask, immediate}
 use Rattle.words.specs.Parts.{Option, always, mult, level1, level2, level2_memory, memory, ports, rmw, banks, spr, never}
 use Rattle.words.specs.Kinds.{from_register, literal, short_literal, counted}
-use Rattle.words.specs.Kinds.{Z, NZ, GT, Lt, GE, Le, NIRQ, B0, B1, NB0, NB1, BIO}
+use Rattle.words.specs.Kinds.{Z, NZ, GT, LT, GE, LE, NIRQ, B0, B1, NB0, NB1, BIO}
 use Rattle.words.specs.Kinds.{Kind, unsupported, compute, compare, multiply, bytewise, load_index, index_store, index_load, move, load_constant, load_register, load_direct, store_register, store_direct, port_read, port_modify, port_write, jump, branch, jump_register, branch_register, call, call_register, ret, ret_constant, enter_bank, leave_bank, enter_special, leave_special}
 use Rattle.words.specs.Frames.{Frame, NUMBER, DESTINATION, VALUE, bare, ◌plus◌≔◌, frame_of}
 
@@ -145,9 +145,9 @@ rows =
     row 0xc0800000 always (branch Z) ∷  -- JMP target,Z
     row 0xc1000000 always (branch NZ) ∷  -- JMP target,NZ
     row 0xc1800000 always (branch GT) ∷  -- JMP target,GT
-    row 0xc2000000 always (branch Lt) ∷  -- JMP target,Lt
+    row 0xc2000000 always (branch LT) ∷  -- JMP target,LT
     row 0xc2800000 always (branch GE) ∷  -- JMP target,GE
-    row 0xc3000000 always (branch Le) ∷  -- JMP target,Le
+    row 0xc3000000 always (branch LE) ∷  -- JMP target,LE
     row 0xc3800000 never (branch NIRQ) ∷  -- JMP target,NIRQ
     row 0xc4000000 never (branch B0) ∷  -- JMP target,B0
     row 0xc4800000 never (branch B1) ∷  -- JMP target,B1
@@ -158,9 +158,9 @@ rows =
     row 0xc8800000 always (branch_register Z) ∷  -- JMP @%d,Z
     row 0xc9000000 always (branch_register NZ) ∷  -- JMP @%d,NZ
     row 0xc9800000 always (branch_register GT) ∷  -- JMP @%d,GT
-    row 0xca000000 always (branch_register Lt) ∷  -- JMP @%d,Lt
+    row 0xca000000 always (branch_register LT) ∷  -- JMP @%d,LT
     row 0xca800000 always (branch_register GE) ∷  -- JMP @%d,GE
-    row 0xcb000000 always (branch_register Le) ∷  -- JMP @%d,Le
+    row 0xcb000000 always (branch_register LE) ∷  -- JMP @%d,LE
     row 0xcb800000 never (branch_register NIRQ) ∷  -- JMP @%d,NIRQ
     row 0xcc000000 never (branch_register B0) ∷  -- JMP @%d,B0
     row 0xcc800000 never (branch_register B1) ∷  -- JMP @%d,B1

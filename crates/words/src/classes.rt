@@ -12,7 +12,7 @@ pub const MISC: u32 = 244;
 
 pub const NONE: u32 = 255;
 
-// The class of each value, an entry a line.
+// The class of each value.
 pub const CLASSES: [u8; 512] = [
     0, 255, 255, 255, 4, 1, 2, 3, 0, 255, 255, 255, 4, 1, 2, 3, 5, 255, 255, 255, 9, 6, 7, 8, 5,
     255, 255, 255, 9, 6, 7, 8, 10, 255, 255, 255, 14, 11, 12, 13, 10, 255, 255, 255, 14, 11, 12,

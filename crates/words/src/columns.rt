@@ -1,4 +1,4 @@
-// The rows as columns of numbers, an entry a line, in the order of specs/Rows.antt. Written by tools/rows.
+// The rows as columns of numbers, in the order of specs/Rows.antt. Written by tools/rows.
 
 // The word of each row with all parts zero.
 pub const BASES: [u32; 131] = [
