@@ -10,4 +10,3 @@ pub mod Multiply
 pub mod Immediates
 pub mod Alu
 pub mod DoubleSums
-pub mod Claims

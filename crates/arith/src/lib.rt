@@ -16,7 +16,7 @@ ghost use Rattle.arith.specs.Width.{bits};
 ghost use Rattle.arith.specs.Alu.{alu_of, Within};
 ghost use Rattle.arith.specs.Multiply.{mul_of};
 ghost use Rattle.arith.specs.Immediates.{immediate_of};
-ghost use Rattle.arith.specs.Claims.{Computes};
+ghost use Rattle.arith.specs.DoubleSums.{DoubleSums};
 
 use bytes::{bld_word, blds_word, bst_word};
 use immediates::{shifted, sign_extended};
@@ -47,7 +47,8 @@ pub struct Product {
 // 8 nor 16 counts as 32, the operands are taken at the width, n modulo 2 and a byte number modulo 4. ADD and ADDC, SUB and SUBC
 // make double-length sums (document 02, K8).
 pub fn alu(width: u32, op: Operation, d: u32, s: u32, n: u64) -> Word
-    ensures { Computes width op d s n result }
+    ensures answer { result ≡ alu_of (bits width) op (d % 2 ^ bits width) (s % 2 ^ bits width) (n % 2) }
+    ensures double_sums { DoubleSums }
 {
     let w = bits_of(width);
     alu_within(width, op, truncate(w, d), truncate(w, s), n % 2)

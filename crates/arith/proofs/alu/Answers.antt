@@ -2,11 +2,10 @@
 -- Assumes nothing.
 use Rattle.arith.proofs.Laws.{cut_within}
 use Rattle.arith.proofs.DoubleSums.{double_sums}
-use Rattle.std.proofs.Common.{rules}
 use Rattle.arith.proofs.alu.Goals as goal
 
 pub returns : goal.returns
 returns c = record {
-      answer = rw (c.alu_within.ensures (cut_within c.bits_of-w.ensures.0 _ _ _ c.truncate.ensures c.truncate-2.ensures), c.truncate-2.ensures, c.truncate.ensures, c.bits_of-w.ensures.0);
-      double_sums = double_sums;
-    }
+  answer = rw (c.alu_within.ensures (cut_within c.bits_of-w.ensures.0 _ _ _ c.truncate.ensures c.truncate-2.ensures), c.truncate-2.ensures, c.truncate.ensures, c.bits_of-w.ensures.0);
+  double_sums = double_sums;
+}

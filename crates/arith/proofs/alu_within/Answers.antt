@@ -1,7 +1,7 @@
 -- `arith::alu_within` meets its contract: each arm is its operation, of words.
 -- Assumes nothing.
 use Rattle.arith.specs.Alu.{alu_of}
-use Rattle.std.proofs.Common.{arith, rules}
+use Rattle.std.proofs.Common.{arith}
 use Rattle.arith.proofs.width.Laws.{cut}
 use Rattle.arith.proofs.Laws.{within_words, within_source, cut_same, flag_same}
 use Rattle.arith.proofs.alu_within.Goals as goal

@@ -1,5 +1,5 @@
 -- `arith::immediate` meets its contract, form by form. Assumes nothing.
-use Rattle.std.proofs.Common.{◌%◌, ◌∙◌, arith, rules}
+use Rattle.std.proofs.Common.{◌%◌, ◌∙◌, arith}
 use Rattle.arith.proofs.immediates.Laws.{signed_cut, unsigned_cut}
 use Rattle.arith.proofs.immediate.Goals as goal
 

@@ -1,7 +1,7 @@
 -- `arith::bytes::bst_word` meets its contract: nothing is lost in 64 bits, and the parts do not overlap (`bst_code`).
 -- Assumes nothing.
 use Rattle.arith.specs.Bytes.{bst_of}
-use Rattle.std.proofs.Common.{◌*◌, arith, pow_pos, rules}
+use Rattle.std.proofs.Common.{◌*◌, arith, pow_pos}
 use Rattle.arith.proofs.bytes.Laws.{bst_code, byte_lt}
 use lib.Pow.{shr_le}
 use Rattle.arith.proofs.bytes.bst_word.Goals as goal

@@ -1,6 +1,6 @@
 -- `arith::immediates::shifted` meets its contract. Assumes nothing.
 use Rattle.laws.specs.Choice.{pick}
-use Rattle.std.proofs.Common.{rules, eq-eqb, ne_eqb}
+use Rattle.std.proofs.Common.{eq-eqb, ne_eqb}
 use Rattle.arith.specs.Immediates.{extend_of, immediate_of}
 use Rattle.arith.proofs.immediates.shifted.Goals as goal
 

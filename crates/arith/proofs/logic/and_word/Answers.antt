@@ -1,7 +1,6 @@
 -- `arith::logic::and_word` meets its contract: as `word_of` has it.
 -- Assumes nothing.
 use Rattle.arith.specs.Logic.{and_of}
-use Rattle.std.proofs.Common.{rules}
 use Rattle.arith.proofs.logic.and_word.Goals as goal
 
 pub returns : goal.returns

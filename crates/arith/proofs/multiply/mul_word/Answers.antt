@@ -2,7 +2,7 @@
 -- Assumes nothing.
 use Rattle.arith.specs.Multiply.{mul_of}
 use Rattle.laws.specs.Choice.{pick}
-use Rattle.std.proofs.Common.{ℕ, ◌*◌, ◌%◌, ◌^◌, ◌<◌, suc-le-suc, le_trans, mul-le-mul, arith, lit≤, rules, le-leb}
+use Rattle.std.proofs.Common.{ℕ, ◌*◌, ◌%◌, ◌^◌, ◌<◌, suc-le-suc, le_trans, mul-le-mul, arith, lit≤, le-leb}
 use borrow.Author.Tests.{lt-leb}
 use Rattle.arith.proofs.multiply.mul_word.Goals as goal
 

@@ -1,6 +1,6 @@
 -- `arith::shifts::rotl_word` meets its contract: the parts do not overlap (`rotl_code`).
 -- Assumes nothing.
-use Rattle.std.proofs.Common.{ap, rules}
+use Rattle.std.proofs.Common.{ap}
 use Rattle.arith.specs.Shifts.{moved_left, rotl_of}
 use Rattle.arith.proofs.shifts.Laws.{rotl_code}
 use Rattle.arith.proofs.shifts.rotl_word.Goals as goal

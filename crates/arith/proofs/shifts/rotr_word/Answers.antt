@@ -2,7 +2,6 @@
 -- Assumes nothing.
 use Rattle.arith.specs.Shifts.{rotr_of}
 use Rattle.arith.proofs.shifts.Laws.{rotr_code}
-use Rattle.std.proofs.Common.{rules}
 use Rattle.arith.proofs.shifts.rotr_word.Goals as goal
 
 pub returns : goal.returns

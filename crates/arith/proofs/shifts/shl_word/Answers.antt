@@ -2,7 +2,6 @@
 -- Assumes nothing.
 use Rattle.arith.specs.Shifts.{shl_of}
 use Rattle.arith.proofs.shifts.Laws.{shl_code}
-use Rattle.std.proofs.Common.{rules}
 use Rattle.arith.proofs.shifts.shl_word.Goals as goal
 
 pub returns : goal.returns

@@ -1,7 +1,6 @@
 -- `arith::shifts::shr_word` meets its contract: as `moved_right` has it.
 -- Assumes nothing.
 use Rattle.arith.specs.Shifts.{shr_of}
-use Rattle.std.proofs.Common.{rules}
 use Rattle.arith.proofs.shifts.shr_word.Goals as goal
 
 pub returns : goal.returns

@@ -2,7 +2,7 @@
 -- Assumes nothing.
 use Rattle.arith.specs.Shifts.{shra_of}
 use Rattle.laws.specs.Choice.{pick}
-use Rattle.std.proofs.Common.{le_trans, zero-add, arith, pow_pos, rules, le-leb}
+use Rattle.std.proofs.Common.{le_trans, zero-add, arith, pow_pos, le-leb}
 use borrow.Author.Tests.{lt-leb}
 use Rattle.arith.proofs.width.Laws.{power_most}
 use Rattle.arith.proofs.shifts.Laws.{shra_code, shra_fits}

@@ -1,7 +1,6 @@
 -- `arith::sums::sub_word` meets its contract: as `subtract` has it.
 -- Assumes nothing.
 use Rattle.arith.specs.Sums.{sub_of}
-use Rattle.std.proofs.Common.{rules}
 use Rattle.arith.proofs.sums.sub_word.Goals as goal
 
 pub returns : goal.returns

@@ -2,7 +2,6 @@
 -- Assumes nothing.
 use Rattle.arith.specs.Sums.{subs_of}
 use Rattle.arith.proofs.sums.Laws.{raise_code, sign_code}
-use Rattle.std.proofs.Common.{rules}
 use Rattle.arith.proofs.sums.subs_word.Goals as goal
 
 pub returns : goal.returns

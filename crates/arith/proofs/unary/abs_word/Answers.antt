@@ -3,7 +3,7 @@
 use Rattle.arith.specs.Unary.{abs_of}
 use Rattle.arith.specs.Width.{one}
 use Rattle.laws.specs.Choice.{pick}
-use Rattle.std.proofs.Common.{◌-◌, arith, pow_pos, rules, le-leb}
+use Rattle.std.proofs.Common.{◌-◌, arith, pow_pos, le-leb}
 use borrow.Author.Tests.{lt-leb}
 use Rattle.arith.proofs.width.Laws.{power_most}
 use Rattle.arith.proofs.unary.abs_word.Goals as goal

@@ -2,7 +2,6 @@
 -- Assumes nothing.
 use Rattle.arith.specs.Unary.{clz_of}
 use Rattle.arith.proofs.unary.Laws.{top_half, zeros_code}
-use Rattle.std.proofs.Common.{rules}
 use Rattle.arith.proofs.unary.clz_word.Goals as goal
 
 pub overflow_cast-top_half : goal.overflow_cast-top_half

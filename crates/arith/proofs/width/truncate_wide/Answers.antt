@@ -1,6 +1,6 @@
 -- `arith::width::truncate_wide` meets its contract: a mask of ones is the remainder.
 -- Assumes nothing.
-use Rattle.std.proofs.Common.{ℕ, ◌-◌, ap, ◌∙◌, arith, pow_pos, rules}
+use Rattle.std.proofs.Common.{ℕ, ◌-◌, ap, ◌∙◌, arith, pow_pos}
 use lib.Bits.{and_mask, bit_and}
 use Rattle.arith.proofs.width.Laws.{mask_fits}
 use Rattle.arith.proofs.width.truncate_wide.Goals as goal
