@@ -8,7 +8,7 @@ use Rattle.laws.specs.Choice.{either}
 use Rattle.laws.specs.First.{first_failing}
 use Rattle.state.specs.State.{Env, State}
 use Rattle.state.specs.Ranges.{run_guards}
-use Rattle.state.specs.Step.{number, applied, plan_at, advance_of, step_of}
+use Rattle.state.specs.Step.{applied, plan_at, advance_of, step_of}
 use Rattle.state.specs.Run.{Run, ended, after, run_of, run_call}
 use Rattle.state.proofs.Step.{put_length}
 use Rattle.state.proofs.Unchanged.{advance_holds, step_holds}

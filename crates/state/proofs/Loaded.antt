@@ -98,10 +98,10 @@ call_along budget e s =
 
 -- 27: of 9 to 15 it is the first that stops a MOVX before an LDYX
 
-first_27 : (v : View) (i : Instruction) (k : Kind) → Movx k → v.core.loaded ≡ 0 → first_failing (stops9to15 v i (facts_for k)) ≡ 27
+first_27 : (v : View) (i : Instruction) {k : Kind} → Movx k → v.core.loaded ≡ 0 → first_failing (stops9to15 v i (facts_for k)) ≡ 27
 unfolding stops9to15 facts_for marks_of pick
-first_27 v i index_store to_memory z = rw z refl
-first_27 v i index_load from_memory z = rw z refl
+first_27 v i to_memory z = rw z refl
+first_27 v i from_memory z = rw z refl
 
 stops_27 : (e : Env) (s : State) → Reached e s → Movx (kind_at e s) → s.core.loaded ≡ 0 → (step_of e s).number ≡ 27
 unfolding step_of advance_of number stops refusals567 pick
@@ -112,7 +112,7 @@ stops_27 e s h k z =
     (4, less s.core.pc e.config.imsize) ∷ (refusals567 e.config (row_at i.row) i ++ ((8, stop8 s.core.mode i.source f) ∷ [])) in
     let q : number e s ≡ 27 =
     skip before (stops9to15 (view_of e s) i f) (h.pc also h.reads.0 also h.reads.1.0 also h.reads.1.1.0 also h.mode also tt) ∙
-    first_27 (view_of e s) i (kind_at e s) k z in
+    first_27 (view_of e s) i k z in
     rw (none_fails (guards e s) h.valid, q) refl
 
 -- and it stops nothing else

@@ -2,7 +2,7 @@
 use Rattle.std.specs.Prelude.{ℕ, ◌+◌, ◌*◌, ◌%◌, Bool, false, not, ◌&&◌, ◌||◌, List, [], ◌∷◌, leb, eqb, length, get_or}
 use Rattle.words.specs.declared.Config.{Config}
 use Rattle.words.specs.Kinds.{Operand, from_register, literal, short_literal, counted}
-use Rattle.words.specs.Kinds.{Condition, Z, NZ, GT, Lt, GE, Le, NIRQ, B0, B1, NB0, NB1, BIO}
+use Rattle.words.specs.Kinds.{Condition, Z, NZ, GT, LT, GE, LE, NIRQ, B0, B1, NB0, NB1, BIO}
 use Rattle.words.specs.declared.Form.{Form}
 use Rattle.arith.specs.Width.{bits, one}
 use Rattle.arith.specs.Immediates.{immediate_of}
@@ -48,14 +48,14 @@ operand c (literal f) source value = constant c f value
 operand c short_literal source value = 0
 operand c counted source value = value
 
--- "GT: neither Z nor N; Lt: N; GE: not N; Le: Z or N. BIO is never taken." The conditions from NIRQ to NB1 are unsupported.
+-- "GT: neither Z nor N; LT: N; GE: not N; LE: Z or N. BIO is never taken." The conditions from NIRQ to NB1 are unsupported.
 unfoldable pub condition_met : Condition → ℕ → ℕ → Bool
 condition_met Z n z = eqb z 1
 condition_met NZ n z = not (eqb z 1)
 condition_met GT n z = not (eqb z 1) && not (eqb n 1)
-condition_met Lt n z = eqb n 1
+condition_met LT n z = eqb n 1
 condition_met GE n z = not (eqb n 1)
-condition_met Le n z = eqb z 1 || eqb n 1
+condition_met LE n z = eqb z 1 || eqb n 1
 condition_met NIRQ n z = false
 condition_met B0 n z = false
 condition_met B1 n z = false

@@ -2,7 +2,6 @@
 use Rattle.laws.specs.Choice.{pick}
 use borrow.Author.Tests.{ne_eqb}
 use Rattle.state.specs.State.{stack_limit}
-use borrow.Author.Rules.{rules}
 use Rattle.state.proofs.Machine.stack_limit.Goals as goal
 
 pub returns-then-pcstack-eq1 : goal.returns-then-pcstack-eq1
