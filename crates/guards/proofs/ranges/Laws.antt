@@ -1,7 +1,7 @@
 -- The cells of a record and its memories, tested by their joined bits and part by part. Assumes nothing.
 use Prim.Native.Nat.{ℕ, zero, suc, ◌+◌, ◌-◌, ◌^◌, ◌≤◌, ◌<◌}
 use mathlib.Core.Path.{◌≡◌, refl, sym, ◌∙◌}
-use mathlib.Core.Bool.{Bool, true, false, not, ◌&&◌, and_assoc, and-true, and-false}
+use mathlib.Core.Bool.{Bool, true, false, ◌&&◌, and_assoc, and-true, and-false}
 use mathlib.Core.List.{List, [], ◌∷◌}
 use native.Mathlib.Nat.{lt_of_lt_of_le}
 use native.Mathlib.Omega.{arith}
@@ -56,17 +56,17 @@ never h =
     absurd n
 
 -- a test of four parts, of which the first three are asked first
-pub three_fail : (a b c d : Bool) → not (a && (b && c)) ≡ true → false ≡ (a && (b && (c && d)))
-three_fail true true true d h = never (sym h)
+pub three_fail : (a b c d : Bool) → (a && (b && c)) ≡ false → false ≡ (a && (b && (c && d)))
+three_fail true true true d h = never h
 three_fail true true false d h = refl
 three_fail true false c d h = refl
 three_fail false b c d h = refl
 
-pub three_pass : (a b c d : Bool) → not (a && (b && c)) ≡ false → d ≡ (a && (b && (c && d)))
+pub three_pass : (a b c d : Bool) → (a && (b && c)) ≡ true → d ≡ (a && (b && (c && d)))
 three_pass true true true d h = refl
-three_pass true true false d h = never h
-three_pass true false c d h = never h
-three_pass false b c d h = never h
+three_pass true true false d h = never (sym h)
+three_pass true false c d h = never (sym h)
+three_pass false b c d h = never (sym h)
 
 -- the words of both memories: at W = 32 every cell is below 2^32
 pub words_all : (w top : ℕ) (xs ys : List ℕ) → top ≡ 2 ^ w → 4294967296 ≤ top → ((i : ℕ) → get_or xs i 0 < 2 ^ 32) → ((i : ℕ) → get_or ys i 0 < 2 ^ 32) →
@@ -78,6 +78,3 @@ words_all w top xs ys e m f g =
 pub words_joined : (w top a b : ℕ) (xs ys : List ℕ) → top ≡ 2 ^ w → a ≡ join_of xs → b ≡ join_of ys →
     ltb (bit_or a b) top ≡ (below (2 ^ w) xs && below (2 ^ w) ys)
 words_joined w top a b xs ys e h l = rw (e, or_below w a b, h, l, join_below w xs, join_below w ys)
-
-pub in_two : (a b c d e f : Bool) → e ≡ (a && b) → f ≡ (c && d) → (e && f) ≡ (a && (b && (c && d)))
-in_two a b c d e f p q = rw (p, q) (and_assoc a b (c && d))

@@ -1,10 +1,5 @@
 -- `guards::memories::joined` meets its contract. Assumes nothing.
-use native.Mathlib.Omega.{arith}
-use borrow.Author.Rules.{rules}
-use mathlib.Core.Path.{◌≡◌, refl, ◌∙◌}
-use Prim.Native.Nat.{◌-◌}
-use lib.ListN.{length, drop}
-use Rattle.guards.specs.Joins.{join_from, join_of}
+use mathlib.Core.Path.{refl, ◌∙◌}
 use Rattle.guards.proofs.Joins.{join_further, join_done}
 use Rattle.guards.proofs.memories.joined.Goals as goal
 

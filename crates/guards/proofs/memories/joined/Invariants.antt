@@ -1,11 +1,8 @@
 -- `guards::memories::joined` meets its contract. Assumes nothing.
-use native.Mathlib.Omega.{arith}
-use borrow.Author.Rules.{rules}
-use mathlib.Core.Path.{◌≡◌, refl, ◌∙◌}
+use mathlib.Core.Path.{◌≡◌}
 use Prim.Native.Nat.{◌-◌}
 use lib.ListN.{length, drop}
 use Rattle.guards.specs.Joins.{join_from, join_of}
-use Rattle.guards.proofs.Joins.{join_further, join_done}
 use Rattle.guards.proofs.memories.joined.Given as goal
 
 abbrev pub invariant-loop-i : goal.invariant-loop-i

@@ -1,11 +1,8 @@
 -- `guards::memories::within` meets its contract. Assumes nothing.
-use native.Mathlib.Omega.{arith}
-use borrow.Author.Rules.{rules}
-use mathlib.Core.Path.{◌≡◌, refl, sym, ◌∙◌}
+use mathlib.Core.Path.{◌≡◌}
 use Prim.Native.Nat.{◌+◌, ◌-◌}
 use lib.ListN.{length, drop}
 use Rattle.laws.specs.Test.{below}
-use Rattle.laws.specs.Cells.{below_further, below_ends, below_done}
 use Rattle.guards.proofs.memories.within.Given as goal
 
 abbrev pub invariant-loop-i : goal.invariant-loop-i

@@ -1,6 +1,6 @@
 -- `plans::plans::branch` meets its contract. Assumes nothing.
 use Rattle.laws.specs.Choice.{pick}
-use Rattle.std.proofs.Common.{rules, eq-eqb, ne_eqb}
+use Rattle.std.proofs.Common.{eq-eqb, ne_eqb}
 use Rattle.plans.specs.Values.{taken_at}
 use Rattle.plans.proofs.plans.branch.Goals as goal
 

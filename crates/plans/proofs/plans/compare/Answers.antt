@@ -1,7 +1,7 @@
 -- `plans::plans::compare` meets its contract. Assumes nothing.
 use Rattle.plans.specs.Values.{compared}
 use Rattle.plans.proofs.plans.Laws.{within_alu}
-use Rattle.std.proofs.Common.{◌∙◌, rules}
+use Rattle.std.proofs.Common.{◌∙◌}
 use Rattle.plans.proofs.plans.compare.Goals as goal
 
 pub returns : goal.returns

@@ -1,7 +1,7 @@
 -- `plans::plans::compute` meets its contract. Assumes nothing.
 use Rattle.plans.specs.Values.{computed}
 use Rattle.plans.proofs.plans.Laws.{within_alu}
-use Rattle.std.proofs.Common.{◌∙◌, rules}
+use Rattle.std.proofs.Common.{◌∙◌}
 use Rattle.plans.proofs.plans.compute.Goals as goal
 
 pub returns : goal.returns

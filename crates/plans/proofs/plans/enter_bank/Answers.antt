@@ -1,6 +1,6 @@
 -- `plans::plans::enter_bank` meets its contract. Assumes nothing.
 use Rattle.laws.specs.Choice.{pick}
-use Rattle.std.proofs.Common.{rules, le-leb}
+use Rattle.std.proofs.Common.{le-leb}
 use borrow.Author.Tests.{lt-leb}
 use Rattle.plans.proofs.plans.enter_bank.Goals as goal
 

@@ -1,6 +1,6 @@
 -- `plans::plans::index_load` meets its contract. Assumes nothing.
 use Rattle.laws.specs.Choice.{pick}
-use Rattle.std.proofs.Common.{rules, le-ltb, lt-ltb, eq-eqb, ne_eqb}
+use Rattle.std.proofs.Common.{le-ltb, lt-ltb, eq-eqb, ne_eqb}
 use Rattle.plans.proofs.plans.index_load.Goals as goal
 
 pub returns-then-m-eq0 : goal.returns-then-m-eq0

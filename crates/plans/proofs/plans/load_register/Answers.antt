@@ -1,6 +1,6 @@
 -- `plans::plans::load_register` meets its contract. Assumes nothing.
 use Rattle.laws.specs.Choice.{pick}
-use Rattle.std.proofs.Common.{rules, le-ltb, lt-ltb}
+use Rattle.std.proofs.Common.{le-ltb, lt-ltb}
 use Rattle.plans.proofs.plans.load_register.Goals as goal
 
 pub returns-then-t-memory : goal.returns-then-t-memory

@@ -1,24 +1,20 @@
 -- `plans::plans::port_modify` meets its contract. Assumes nothing.
 use Rattle.laws.specs.Choice.{pick}
-use Rattle.std.proofs.Common.{sym, ◌∙◌, arith, rules, le-ltb, lt-ltb}
-use borrow.Author.Tests.{not-true, not-false}
+use Rattle.std.proofs.Common.{sym, ◌∙◌, le-ltb, lt-ltb}
 use Rattle.plans.proofs.plans.port_modify.Goals as goal
 
 pub returns-then-not-near : goal.returns-then-not-near
 unfolding pick
-returns-then-not-near c = rw (sym c.near.ensures ∙ not-true c.near.result c.if-not-near.true-raw, c.stopped.ensures)
+returns-then-not-near c = rw (sym c.near.ensures ∙ c.if-not-near.true, c.stopped.ensures)
 
 pub returns-then-inputs-t : goal.returns-then-inputs-t
 unfolding pick
-returns-then-inputs-t c = rw (sym c.near.ensures ∙ not-false c.near.result c.if-not-near.false-raw, le-ltb _ _ c.if-inputs-t.true, c.stopped-then-inputs-t.ensures)
+returns-then-inputs-t c = rw (sym c.near.ensures ∙ c.if-not-near.false, le-ltb _ _ c.if-inputs-t.true, c.stopped-then-inputs-t.ensures)
 
 pub returns-then-room-l : goal.returns-then-room-l
 unfolding pick
-returns-then-room-l c = rw (sym c.near.ensures ∙ not-false c.near.result c.if-not-near.false-raw, lt-ltb _ _ c.if-inputs-t.false, le-ltb _ _ c.if-room-l.true, c.stopped-then-room-l.ensures)
-
-pub overflow_add-t : goal.overflow_add-t
-overflow_add-t c = omega (arith, c.if-inputs-t.false, c.well-formed)
+returns-then-room-l c = rw (sym c.near.ensures ∙ c.if-not-near.false, lt-ltb _ _ c.if-inputs-t.false, le-ltb _ _ c.if-room-l.true, c.stopped-then-room-l.ensures)
 
 pub returns : goal.returns
 unfolding pick
-returns c = rw (sym c.near.ensures ∙ not-false c.near.result c.if-not-near.false-raw, lt-ltb _ _ c.if-inputs-t.false, lt-ltb _ _ c.if-room-l.false, c.change.ensures, c.posting.ensures, c.positioned.ensures, c.next.ensures, c.to.ensures, c.to-2.ensures, c.to-3.ensures, c.off-off.ensures, c.with_top_bit-y.ensures, c.cut-x.ensures, c.wide.ensures)
+returns c = rw (sym c.near.ensures ∙ c.if-not-near.false, lt-ltb _ _ c.if-inputs-t.false, lt-ltb _ _ c.if-room-l.false, c.change.ensures, c.posting.ensures, c.positioned.ensures, c.next.ensures, c.to.ensures, c.to-2.ensures, c.to-3.ensures, c.off-off.ensures, c.with_top_bit-y.ensures, c.cut-x.ensures, c.wide.ensures)

@@ -1,6 +1,6 @@
 -- `plans::plans::port_write` meets its contract. Assumes nothing.
 use Rattle.laws.specs.Choice.{pick}
-use Rattle.std.proofs.Common.{rules, le-ltb, lt-ltb}
+use Rattle.std.proofs.Common.{le-ltb, lt-ltb}
 use Rattle.plans.proofs.plans.port_write.Goals as goal
 
 pub returns-then-room-l : goal.returns-then-room-l

@@ -1,6 +1,6 @@
 -- `plans::plans::ret` meets its contract. Assumes nothing.
 use Rattle.laws.specs.Choice.{pick}
-use Rattle.std.proofs.Common.{◌<◌, arith, rules, lt-ltb}
+use Rattle.std.proofs.Common.{◌<◌, arith, lt-ltb}
 use Rattle.plans.proofs.plans.ret.Goals as goal
 
 pub returns-then-d-eq0 : goal.returns-then-d-eq0

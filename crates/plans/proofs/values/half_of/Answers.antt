@@ -1,5 +1,5 @@
 -- `plans::values::half_of` meets its contract. Assumes nothing.
-use Rattle.std.proofs.Common.{arith, ne_eqb}
+use Rattle.std.proofs.Common.{◌≢◌, arith, ne_eqb}
 use Rattle.laws.specs.Choice.{pick}
 use Rattle.arith.specs.Width.{bits}
 use Rattle.plans.proofs.values.half_of.Goals as goal
@@ -14,4 +14,7 @@ returns-in-16 c = ((rw c.in-16.is), omega arith)
 
 pub returns-in_default : goal.returns-in_default
 unfolding bits pick
-returns-in_default c = ((simp (ne_eqb _ _ c.in_default.in_default-own.rest.1, ne_eqb _ _ c.in_default.in_default-own.rest.0.1)), omega arith)
+returns-in_default c =
+    let not_8 : c.args.width ≢ 8 = omega arith in
+    let not_16 : c.args.width ≢ 16 = omega arith in
+    ((simp (ne_eqb _ _ not_8, ne_eqb _ _ not_16)), omega arith)

@@ -1,5 +1,5 @@
 -- `plans::values::log2_of` meets its contract. Assumes nothing.
-use Rattle.std.proofs.Common.{arith, rules}
+use Rattle.std.proofs.Common.{arith}
 use Rattle.state.specs.Operands.{log2}
 use Rattle.plans.proofs.values.log2_of.Goals as goal
 

@@ -1,5 +1,5 @@
 -- `plans::values::special_register` meets its contract. Assumes nothing.
-use Rattle.std.proofs.Common.{◌∙◌, rules}
+use Rattle.std.proofs.Common.{◌∙◌}
 use Rattle.plans.proofs.values.Laws.{special_inside, special_beyond}
 use Rattle.plans.proofs.values.special_register.Goals as goal
 

@@ -1,5 +1,5 @@
 -- `plans::values::with_top_bit` meets its contract. Assumes nothing.
-use Rattle.std.proofs.Common.{arith, rules, le-leb}
+use Rattle.std.proofs.Common.{arith, le-leb}
 use Rattle.laws.specs.Choice.{pick}
 use borrow.Author.Tests.{lt-leb}
 use Rattle.state.specs.Plans.{with_top_bit}
