@@ -4,7 +4,6 @@ use Rattle.laws.specs.Choice.{pick}
 use Rattle.arith.specs.Width.{one}
 use Rattle.cells.specs.Templates.{cost_of}
 use Rattle.cells.proofs.decoding.Laws.{wait_most, no_wait_most}
-use borrow.Author.Rules.{rules}
 use Rattle.cells.proofs.decoding.cost.Goals as goal
 
 pub returns-then-t-c : goal.returns-then-t-c

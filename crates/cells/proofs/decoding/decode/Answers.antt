@@ -2,7 +2,6 @@
 use mathlib.Core.Path.{sym, ap, ◌∙◌}
 use Rattle.words.specs.Answers.{reading_of}
 use Rattle.cells.proofs.Filled.{template_cost, read_cell, quick_cell, answered, refused_cell}
-use borrow.Author.Rules.{rules}
 use Rattle.cells.proofs.decoding.decode.Goals as goal
 
 pub filled-requires : goal.filled-requires

@@ -1,6 +1,5 @@
 -- `cells::decoding::filled` meets its contract. Assumes nothing.
 use Rattle.cells.specs.Templates.{filled}
-use borrow.Author.Rules.{rules}
 use Rattle.cells.proofs.decoding.filled.Goals as goal
 
 pub returns : goal.returns
