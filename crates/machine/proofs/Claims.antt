@@ -9,7 +9,6 @@ use Rattle.state.proofs.Unchanged as unchanged
 use Rattle.state.proofs.StaysValid.{step_valid}
 use Rattle.state.proofs.Leaving.{leaves_image}
 use Rattle.state.proofs.ComesBack.{comes_back, goes_by_zero, goes_along}
-use Rattle.state.proofs.DoubleSteps.{double_steps}
 use Rattle.state.proofs.Loaded.{remembers}
 use Rattle.state.proofs.Run.{run_cycles}
 use Rattle.state.proofs.Calls.{run_by_steps, run_splits}
@@ -27,7 +26,6 @@ steps e s o q =
       comes_back = comes_back;
       goes_by_zero = goes_by_zero;
       goes_along = goes_along;
-      double_steps = double_steps;
       remembers = remembers;
     }
 

@@ -5,7 +5,6 @@ use Rattle.state.specs.Step.{Outcome, refused, step_of}
 use Rattle.state.specs.Run.{ended, run_call}
 use Rattle.state.specs.Claims.{RefusedStays, CellsStay, StepValid, LeavesImage, RunBySteps, RunSplits, RunCycles}
 use Rattle.state.specs.ComesBack.{ComesBack, GoesByZero, GoesAlong}
-use Rattle.state.specs.DoubleSteps.{DoubleSteps}
 use Rattle.state.specs.Loaded.{Remembers}
 use Rattle.machine.specs.Stepping.{End, end_of}
 
@@ -19,7 +18,6 @@ pub record Steps (e : Env) (s : State) (o : Outcome) : Type 0 where
   pub comes_back : ComesBack
   pub goes_by_zero : GoesByZero
   pub goes_along : GoesAlong
-  pub double_steps : DoubleSteps
   pub remembers : Remembers
 
 -- `step_lent` does the same where the lent return stack is 63 cells long; else it answers 2 and leaves all as it was

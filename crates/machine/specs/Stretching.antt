@@ -1,6 +1,6 @@
 -- How far steps came on the way of a run: what is left to do, after what is done, is the whole run.
 use Rattle.std.specs.Prelude.{ℕ, ◌+◌, ◌*◌, ◌%◌, ◌≤◌, ◌<◌, true, ◌⊎◌, ◌≡◌, length}
-use Rattle.state.specs.State.{Env, State, state}
+use Rattle.state.specs.State.{Env, State}
 use Rattle.state.specs.Step.{Outcome, advance_of, cycles_of}
 use Rattle.state.specs.Stops.{facts_at}
 use Rattle.state.specs.Cores.{stopped}

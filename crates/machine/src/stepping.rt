@@ -1,5 +1,6 @@
 // The public calls: one step, and a run.
 ghost use Rattle.state.specs.State.{env, state};
+ghost use Rattle.state.specs.DoubleSteps.{DoubleSteps};
 ghost use Rattle.machine.specs.Claims.{Steps, StepsLent, Runs, RunsLent};
 ghost use Rattle.machine.specs.Stepping.{machine_state, stepped, stepped_core, ran_end, ran_core};
 
@@ -62,7 +63,8 @@ pub fn step(
     addresses: &mut [u32],
     values: &mut [u32],
 ) -> Stepped
-    ensures { Steps (env c image.now inputs.now) (machine_state m registers.old memory.old addresses.old values.old) (stepped result registers.new memory.new addresses.new values.new) }
+    ensures answer { Steps (env c image.now inputs.now) (machine_state m registers.old memory.old addresses.old values.old) (stepped result registers.new memory.new addresses.new values.new) }
+    ensures double_steps { DoubleSteps }
 {
     let core = m.core;
     let mut stack = m.stack;

@@ -1,8 +1,8 @@
 -- The eight rules at one address, as the code asks them.
 -- Assumes nothing.
 use Prim.Native.Nat.{ℕ, ◌+◌}
-use mathlib.Core.Path.{◌≡◌, refl, ap, ◌∙◌}
-use mathlib.Core.Bool.{Bool, true, false, not, ◌&&◌, ◌||◌}
+use mathlib.Core.Path.{◌≡◌, refl, ◌∙◌}
+use mathlib.Core.Bool.{Bool, true, false, not, ◌||◌}
 use mathlib.Core.List.{List}
 use lib.Dec.{eqb}
 use lib.ListN.{get_or}
@@ -25,17 +25,6 @@ pub eight : {b1 b2 b3 b4 b5 b6 b7 t1 t2 t3 t4 t5 t6 t7 : Bool} (v u b8 : Bool) �
     b7 ≡ t7 → first_of (v || b1) (u || b2) (u || b3) (u || b4) (u || b5) (u || b6) (u || b7) (u || b8) ≡
     first_of (v || t1) (u || t2) (u || t3) (u || t4) (u || t5) (u || t6) (u || t7) (u || b8)
 eight v u b8 e1 e2 e3 e4 e5 e6 e7 = rw (e1, e2, e3, e4, e5, e6, e7)
-
--- rule 8 without an output, and with one
-pub no_output : (output b : Bool) → output ≡ false → true ≡ imp output b
-no_output output b e = rw e
-
-pub output_then : (c : Config) (image : List ℕ) (next w : ℕ) (l : Parts) (f : Facts) (output : Bool) → PartsOf c w l → w ≡ get_or image next 0 →
-    f ≡ facts_in l.packed → output ≡ true → not (eqb l.number 0 && f.input) ≡ imp output (not (reads_port c image next))
-output_then c image next w l f output p q e o =
-    let n = p.number_right in
-    let i : f.input ≡ _ = ap (λ (x : Facts). x.input) (e ∙ p.facts_right) in
-    rw (o, n, i, q)
 
 -- an unused address: rules 2 to 8 do not bind it
 unused_first : (b : Bool) → pick {A = ℕ} b 1 0 ≡ pick (imp b false) 0 1

@@ -10,7 +10,7 @@ use lib.Dec.{T, eqb, ltb, leb, eqb→eq, ltb→lt, leb→le, not_T, T_not}
 use lib.ListN.{get_or, length, get_or-eq_default}
 use Rattle.laws.specs.Choice.{pick, is_false}
 use Rattle.laws.specs.First.{Obeyed, none_fails}
-use Rattle.laws.specs.Test.{Test, Holds, less, most, same, yes?, if?, ◌and◌, imp, member, and_left, and_right, imp_use}
+use Rattle.laws.specs.Test.{Test, Holds, less, most, same, yes?, if?, ◌and◌, member, and_left, and_right}
 use Rattle.words.specs.declared.Config.{Config}
 use Rattle.words.specs.declared.Instruction.{Instruction}
 use Rattle.words.specs.declared.Facts.{Facts}
@@ -91,17 +91,6 @@ follows_next e y h t =
     let p : y ≤ e = leb→le y e (and_left (leb y e) (eqb (y / 64) (e / 64)) t) in
     let q : y / 64 ≡ e / 64 = eqb→eq (y / 64) (e / 64) (and_right (leb y e) (eqb (y / 64) (e / 64)) t) in
     record { used = λ u. omega arith; sub = omega arith; level = omega arith; lower = λ t. absurd t; mode = omega arith }
-
--- what the code tests of the next address and of a return
-
-pub goes_next : (f : Facts) (x e m y : ℕ) (o : Bool) → m ≡ y → (T o → Follows false e m) → T (not f.returns && o) →
-    (T f.next → Follows false e y) × (T f.returns → sub_of x ≡ 1)
-goes_next f x e m y o q h t =
-    (λ u. rw (← q) (h (and_right (not f.returns) o t)), λ u. absurd (T_not f.returns (and_left (not f.returns) o t) u))
-
-pub goes_away : (f : Facts) (x e y : ℕ) → f.next ≡ false → T (imp f.returns (eqb (sub_of x) 1)) →
-    (T f.next → Follows false e y) × (T f.returns → sub_of x ≡ 1)
-goes_away f x e y n t = (λ u. never f.next n u, λ u. eqb→eq (sub_of x) 1 (imp_use f.returns (eqb (sub_of x) 1) t u))
 
 -- Each of the word's successors
 

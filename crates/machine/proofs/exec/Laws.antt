@@ -12,7 +12,7 @@ use Rattle.laws.specs.Test.{imp}
 use Rattle.words.specs.declared.Instruction.{Instruction}
 use Rattle.words.specs.declared.Form.{Form}
 use Rattle.words.specs.declared.Operation.{Operation}
-use Rattle.words.specs.Kinds.{Operand, from_register, literal, counted, Condition, Z, NZ, GT, Lt, GE, Le, NIRQ, B0, B1, NB0, NB1, BIO}
+use Rattle.words.specs.Kinds.{Operand, from_register, literal, counted, Condition, Z, NZ, GT, LT, GE, LE, NIRQ, B0, B1, NB0, NB1, BIO}
 use Rattle.words.specs.Kinds.{Kind, marks_of, compute, compare, multiply, bytewise, load_index, index_store, index_load, move, load_constant, load_register, load_direct, store_register, store_direct, port_read, port_modify, port_write, jump, branch, jump_register, branch_register, call, call_register, ret, ret_constant, enter_bank, leave_bank}
 use Rattle.words.specs.Facts.{facts_for}
 use Rattle.words.specs.Actions.{flag', destination', source'}
@@ -55,9 +55,9 @@ unfolding taken_at condition_met one pick
 answers Z = (refl, refl, refl, refl)
 answers NZ = (refl, refl, refl, refl)
 answers GT = (refl, refl, refl, refl)
-answers Lt = (refl, refl, refl, refl)
+answers LT = (refl, refl, refl, refl)
 answers GE = (refl, refl, refl, refl)
-answers Le = (refl, refl, refl, refl)
+answers LE = (refl, refl, refl, refl)
 answers NIRQ = (refl, refl, refl, refl)
 answers B0 = (refl, refl, refl, refl)
 answers B1 = (refl, refl, refl, refl)

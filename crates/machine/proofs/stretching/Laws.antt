@@ -216,18 +216,6 @@ module _ (here : ℕ → ℕ) (budget : ℕ) (e : Env) (s₀ s : State) (steps c
             apart = λ _. (h, rw x.0 x.1);
           }
 
-  -- to the end
-  pub came_done : (core : Core) → steps ≡ budget → Came here budget e s₀ s (record { stop = 0; steps = steps; cycles = cycles; core = core })
-  came_done core q =
-      record {
-        few = omega (arith, q);
-        reached = g;
-        mode = normal;
-        stopped = λ z. absurd (z refl);
-        finished = λ _. q;
-        apart = λ h. let f : ⊥ = omega (arith, h) in absurd f;
-      }
-
 -- One step
 
 -- that leads on

@@ -1,5 +1,4 @@
 -- `certificate::judging::rule_5` meets its contract. Assumes nothing.
-use borrow.Author.Rules.{rules}
 use Rattle.laws.specs.Choice.{pick}
 use Rattle.rules.proofs.Successors.{asked}
 use Rattle.certificate.proofs.judging.rule_5.Goals as goal

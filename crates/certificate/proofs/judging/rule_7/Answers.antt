@@ -1,5 +1,4 @@
 -- `certificate::judging::rule_7` meets its contract. Assumes nothing.
-use borrow.Author.Rules.{rules}
 use Rattle.rules.proofs.Successors.{asked}
 use Rattle.certificate.proofs.judging.rule_7.Goals as goal
 

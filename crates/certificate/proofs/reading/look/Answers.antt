@@ -1,7 +1,6 @@
 -- `certificate::reading::look` meets its contract. Assumes nothing.
 use Rattle.certificate.proofs.reading.Laws.{read_here, refused_parts, decoded_parts}
 use Rattle.words.proofs.Packed.{facts_in_lem}
-use borrow.Author.Rules.{rules}
 use Rattle.certificate.proofs.reading.look.Goals as goal
 
 pub returns-in-Refused : goal.returns-in-Refused

@@ -8,7 +8,6 @@ use Rattle.words.specs.Configs.{lawful}
 use Rattle.rules.specs.Check.{sized}
 use Rattle.certificate.specs.Answers.{answer_of}
 use Rattle.certificate.proofs.searching.Laws.{unlawful, unsized, searched}
-use borrow.Author.Rules.{rules}
 use Rattle.certificate.proofs.searching.check_answer.Goals as goal
 
 pub returns-then-not-lawful : goal.returns-then-not-lawful

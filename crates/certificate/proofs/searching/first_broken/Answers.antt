@@ -1,20 +1,9 @@
 -- `certificate::searching::first_broken` meets its contract. Assumes nothing.
-use Prim.Native.Nat.{◌-◌, ◌<◌}
-use mathlib.Core.Path.{◌≡◌, refl, sym, ◌∙◌}
+use mathlib.Core.Path.{sym, ◌∙◌}
 use native.Mathlib.Omega.{arith}
-use borrow.Author.Rules.{rules}
-use Rattle.state.specs.State.{stack_limit}
-use Rattle.rules.specs.Marks.{mark_at, level_of}
-use Rattle.rules.specs.Check.{passed, lowest, first_broken}
 use Rattle.certificate.specs.Answers.{answer_of}
-use Rattle.certificate.proofs.searching.Laws.{left_at, begins, goes_on, stops, passes}
+use Rattle.certificate.proofs.searching.Laws.{goes_on, stops, passes}
 use Rattle.certificate.proofs.searching.first_broken.Goals as goal
-
-pub loop-a-init : goal.loop-a-init
-loop-a-init c = (refl, omega arith, c.stack_limit-limit.ensures, begins c.args.c c.args.image.now c.args.certificate.now)
-
-pub rule_at-rule-requires : goal.rule_at-rule-requires
-rule_at-rule-requires c = (c.requires.0, c.requires.1, c.requires.2, omega arith, c.loop-a.invariant.2, c.requires.3)
 
 pub returns-then-rule-ne0 : goal.returns-then-rule-ne0
 unfolding answer_of

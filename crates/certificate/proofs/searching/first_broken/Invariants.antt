@@ -1,13 +1,10 @@
 -- `certificate::searching::first_broken` meets its contract. Assumes nothing.
 use Prim.Native.Nat.{◌-◌, ◌<◌}
-use mathlib.Core.Path.{◌≡◌, refl, sym, ◌∙◌}
-use native.Mathlib.Omega.{arith}
-use borrow.Author.Rules.{rules}
+use mathlib.Core.Path.{◌≡◌}
 use Rattle.state.specs.State.{stack_limit}
 use Rattle.rules.specs.Marks.{mark_at, level_of}
 use Rattle.rules.specs.Check.{passed, lowest, first_broken}
-use Rattle.certificate.specs.Answers.{answer_of}
-use Rattle.certificate.proofs.searching.Laws.{left_at, begins, goes_on, stops, passes}
+use Rattle.certificate.proofs.searching.Laws.{left_at}
 use Rattle.certificate.proofs.searching.first_broken.Given as goal
 
 abbrev pub invariant-loop-a : goal.invariant-loop-a

@@ -1,6 +1,5 @@
 -- `certificate::settling::follows` meets its contract. Assumes nothing.
 use Rattle.certificate.proofs.settling.Laws.{follows_call, follows_next}
-use borrow.Author.Rules.{rules}
 use Rattle.certificate.proofs.settling.follows.Goals as goal
 
 pub returns-then-call : goal.returns-then-call

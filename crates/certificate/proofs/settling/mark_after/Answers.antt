@@ -1,6 +1,5 @@
 -- `certificate::settling::mark_after` meets its contract. Assumes nothing.
 use Rattle.laws.specs.Choice.{pick}
-use borrow.Author.Rules.{rules}
 use Rattle.certificate.proofs.settling.mark_after.Goals as goal
 
 pub returns-then-f : goal.returns-then-f

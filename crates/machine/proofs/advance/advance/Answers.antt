@@ -2,11 +2,7 @@
 use Rattle.state.specs.State.{env, state}
 use Rattle.machine.proofs.advance.Laws.{landing_here}
 use Rattle.machine.proofs.stretching.Laws.{change_here, stepped_stop, stepped_on}
-use borrow.Author.Rules.{rules}
 use Rattle.machine.proofs.advance.advance.Goals as goal
-
-pub decide-d-requires : goal.decide-d-requires
-decide-d-requires c = c.requires
 
 pub returns-then-stop-ne0 : goal.returns-then-stop-ne0
 returns-then-stop-ne0 c = stepped_stop (env c.args.c c.args.image.now c.args.inputs.now) (state c.args.m c.args.stack.now c.args.registers.now c.args.memory.now c.args.addresses.now c.args.values.now) _ _ c.decide-d.ensures c.requires.3 c.if-stop-ne0.true

@@ -6,9 +6,6 @@ use Rattle.machine.proofs.advance.Laws.{ready}
 use Rattle.machine.proofs.Cached.{found, kept_inside, decided}
 use Rattle.machine.proofs.advance.decide.Goals as goal
 
-pub cell_at-x-requires : goal.cell_at-x-requires
-cell_at-x-requires c = c.requires.0.room
-
 pub exec-requires : goal.exec-requires
 exec-requires c = rw c.cell_at-x.ensures
     (ready (env c.args.c c.args.image.now c.args.inputs.now) (state c.args.m c.args.stack.now c.args.registers.now c.args.memory.now c.args.addresses.now c.args.values.now) c.args.limit _ c.requires.4 c.requires.1 c.requires.2

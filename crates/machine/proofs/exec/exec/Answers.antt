@@ -8,7 +8,6 @@ use Rattle.words.specs.Lookup.{action_at}
 use Rattle.words.specs.declared.Operation.TheVariants.{Bst, Bld, Blds}
 use Rattle.state.specs.Cores.{stopped}
 use Rattle.machine.proofs.exec.Laws.{acting, beyond, branch_is, branch_register_is, bytes_source, call_is, call_register_is, comparing_immediate, comparing_source, computing_count, computing_immediate, computing_source, enter_bank_is, index_load_is, index_store_is, jump_is, jump_register_is, leave_bank_is, load_constant_is, load_direct_is, load_index_is, load_register_is, move_is, multiply_immediate, multiply_source, port_modify_is, port_read_is, port_write_immediate, port_write_source, ret_constant_is, ret_is, store_direct_is, store_register_is}
-use borrow.Author.Rules.{rules}
 use Rattle.machine.proofs.exec.exec.Goals as goal
 
 pub by_register-t-requires : goal.by_register-t-requires
@@ -208,9 +207,9 @@ cell-requires-in-61 c = c.requires.0.bank
 
 pub returns-in-0 : goal.returns-in-0
 returns-in-0 c = record {
-      apart = λ z. c.stopped.ensures ∙ ap (λ y. stopped c.args.m (256 + y % 256)) c.value.ensures;
-      acts = λ e i p q n m. absurd (n (sym c.action.ensures ∙ c.in-0.is));
-    }
+  apart = λ z. c.stopped.ensures ∙ ap (λ y. stopped c.args.m (256 + y % 256)) c.value.ensures;
+  acts = λ e i p q n m. absurd (n (sym c.action.ensures ∙ c.in-0.is));
+}
 
 pub returns-in-1 : goal.returns-in-1
 unfolding action_at actions

@@ -6,7 +6,6 @@ use Rattle.cells.proofs.Cells.{cell_inside}
 use Rattle.machine.proofs.advance.Laws.{ready}
 use Rattle.machine.proofs.stretching.Laws.{went_came}
 use Rattle.machine.proofs.single.Laws.{switch_went, reveal_went}
-use borrow.Author.Rules.{rules}
 use Rattle.machine.proofs.single.by_cell.Goals as goal
 
 pub returns-then-action-eq0 : goal.returns-then-action-eq0
@@ -20,9 +19,6 @@ reveal-requires c = (ready (env c.args.c c.args.image.now c.args.inputs.now) (st
 pub returns-then-m-ne0 : goal.returns-then-m-ne0
 returns-then-m-ne0 c = reveal_went c.args.budget c.requires.7 (env c.args.c c.args.image.now c.args.inputs.now) (state c.args.m c.args.stack.now c.args.registers.now c.args.memory.now c.args.addresses.now c.args.values.now) c.args.x c.requires.1 c.requires.2 c.requires.3 c.requires.4 _ _ (λ z. c.if-action-eq0.false (c.action.ensures ∙ z)) c.if-m-ne0.true c.reveal.ensures.0
     c.reveal.ensures.1
-
-pub stretch-requires : goal.stretch-requires
-stretch-requires c = (c.requires.5, c.stack_limit-limit.ensures, c.requires.0, c.if-m-ne0.false, c.requires.1, c.requires.8)
 
 pub returns : goal.returns
 returns c = went_came _ c.args.budget (env c.args.c c.args.image.now c.args.inputs.now) (state c.args.m c.args.stack.now c.args.registers.now c.args.memory.now c.args.addresses.now c.args.values.now) _ _ c.stretch.ensures (λ z. c.if-action-eq0.false (c.action.ensures ∙ (sym (ap action_in c.requires.6) ∙ z))) c.requires.7

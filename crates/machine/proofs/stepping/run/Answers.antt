@@ -2,8 +2,7 @@
 use mathlib.Core.Path.{◌≡◌}
 use lib.ListN.{length}
 use borrow.Author.Rules.{rules}
-use Rattle.machine.proofs.stepping.run_lent.Reads as run-lent-reads
 use Rattle.machine.proofs.stepping.run.Goals as goal
 
 pub returns : goal.returns
-returns c = let g = c.well-formed.1.1.1.0 in let h : length c.args.m.stack ≡ 63 = search rules in c.run_lent-r.ensures.fits h
+returns c = let h : length c.args.m.stack ≡ 63 = search rules in c.run_lent-r.ensures.fits h

@@ -5,9 +5,6 @@ use Rattle.state.proofs.Ranges.{accepted}
 use Rattle.state.proofs.Calls.{run_refused, run_too_long, run_taken}
 use Rattle.machine.specs.Stepping.{end_of}
 use Rattle.machine.proofs.Claims.{runs_fit, runs_misfit}
-use borrow.Author.Rules.{rules}
-use Rattle.guards.proofs.refusal.Reads as refusal-reads
-use Rattle.machine.proofs.turning.turns.Reads as turns-reads
 use Rattle.machine.proofs.stepping.run_lent.Goals as goal
 
 pub returns-then-stack-ne-STACK_CELLS : goal.returns-then-stack-ne-STACK_CELLS

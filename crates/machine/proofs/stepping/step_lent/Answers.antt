@@ -5,9 +5,6 @@ use Rattle.state.proofs.Ranges.{accepted}
 use Rattle.state.proofs.Calls.{step_refused, step_taken}
 use Rattle.machine.proofs.stepping.Laws.{one_step}
 use Rattle.machine.proofs.Claims.{steps_fit, steps_misfit}
-use borrow.Author.Rules.{rules}
-use Rattle.guards.proofs.refusal.Reads as refusal-reads
-use Rattle.machine.proofs.turning.once.Reads as once-reads
 use Rattle.machine.proofs.stepping.step_lent.Goals as goal
 
 pub returns-then-stack-ne-STACK_CELLS : goal.returns-then-stack-ne-STACK_CELLS

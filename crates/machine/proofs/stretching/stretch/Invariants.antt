@@ -1,10 +1,8 @@
 -- `machine::stretching::stretch` meets its contract. Assumes nothing.
-use native.Mathlib.Omega.{arith}
 use Prim.Native.Nat.{◌≤◌, ◌-◌}
-use mathlib.Core.Path.{◌≡◌, ◌∙◌}
+use mathlib.Core.Path.{◌≡◌}
 use Rattle.state.specs.State.{env, state}
 use Rattle.machine.specs.Stretching.{Reached}
-use Rattle.machine.proofs.stretching.Laws.{reached_start, reached_more, more_cycles, came_stopped, came_done}
 use Rattle.machine.proofs.stretching.stretch.Given as goal
 
 abbrev pub invariant-loop-done : goal.invariant-loop-done

@@ -1,10 +1,7 @@
 -- `machine::turning::fill` meets its contract. Assumes nothing.
-use native.Mathlib.Omega.{arith}
 use Prim.Native.Nat.{◌+◌, ◌≤◌}
-use mathlib.Core.Path.{◌≡◌, refl, ap, ◌∙◌}
-use lib.Bits.{and_le_r}
+use mathlib.Core.Path.{◌≡◌}
 use lib.ListN.{length}
-use Rattle.cells.specs.Cell.{cell_of}
 use Rattle.machine.specs.Cached.{Cached}
 use Rattle.machine.proofs.turning.fill.Given as goal
 

@@ -1,11 +1,7 @@
 -- `machine::turning::large` meets its contract. Assumes nothing.
 use native.Mathlib.Omega.{arith}
 use Rattle.machine.proofs.Cached.{none_cached}
-use borrow.Author.Rules.{rules}
 use Rattle.machine.proofs.turning.large.Goals as goal
 
 pub turning-requires : goal.turning-requires
 turning-requires c = (none_cached c.args.c c.args.image.now 2047 4096 (omega arith), c.requires.0, c.requires.1, c.requires.2)
-
-pub returns : goal.returns
-returns c = c.turning.ensures

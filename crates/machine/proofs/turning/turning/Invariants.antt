@@ -1,15 +1,10 @@
 -- `machine::turning::turning` meets its contract. Assumes nothing.
-use native.Mathlib.Omega.{arith}
 use Prim.Native.Nat.{◌≤◌, ◌-◌}
-use mathlib.Core.Path.{◌≡◌, refl, ap, ◌∙◌}
+use mathlib.Core.Path.{◌≡◌}
 use lib.ListN.{length}
 use Rattle.state.specs.State.{env, state}
-use Rattle.cells.specs.Cell.{cell_of}
 use Rattle.machine.specs.Cached.{Cached}
 use Rattle.machine.specs.Stretching.{Reached}
-use Rattle.machine.proofs.stretching.Laws.{reached_start, reached_join, reached_done, run_ends, image_ends}
-use Rattle.machine.proofs.single.Laws.{past_image}
-use borrow.Author.Rules.{rules}
 use Rattle.machine.proofs.turning.turning.Given as goal
 
 abbrev pub invariant-loop-done : goal.invariant-loop-done
