@@ -2,7 +2,7 @@
 -- Assumes nothing.
 use Prim.Native.Nat.{ℕ, zero, suc, ◌^◌, ◌<◌}
 use mathlib.Core.Bool.{Bool, true, false, not}
-use mathlib.Core.Path.{◌≡◌, refl, ap, sym, ◌∙◌}
+use mathlib.Core.Path.{◌≡◌, refl, ap, sym, subst, ◌∙◌}
 use mathlib.Core.Logic.{inl, inr}
 use mathlib.Core.List.{List, [], ◌∷◌}
 use native.Mathlib.Omega.{arith}
@@ -110,7 +110,7 @@ unfolding pick reading
 first_by true x fs l i r e f q =
     let s : reading x l ≡ i = cc in
     let t : form_of i ≡ x = ap form_of (sym s) in
-    record { one = inl t; own = rw t (true_is (is_form x l) e); same = rw t s }
+    record { one = inl t; own = rw t (true_is (is_form x l) e); same = subst (λ (y : Form). reading y l ≡ i) (sym t) s }
 first_by false x fs l i r e f q = let s = f q in record { one = inr s.one; own = s.own; same = s.same }
 
 firstly : (fs : List Form) (l : List ℕ) (i : Instruction) → first_in fs l ≡ found i → ReadBy fs l i

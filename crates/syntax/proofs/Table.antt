@@ -2,9 +2,10 @@
 -- Assumes nothing.
 use Prim.Native.Nat.{ℕ, zero, suc, ◌^◌, ◌+◌, ◌<◌}
 use mathlib.Core.Bool.{Bool, true, ◌&&◌, beq}
-use mathlib.Core.Path.{◌≡◌, refl}
+use mathlib.Core.Path.{◌≡◌, refl, subst}
 use mathlib.Core.Logic.{◌⊎◌, inl, inr}
 use mathlib.Core.List.{List, [], ◌∷◌, ◌++◌}
+use native.Mathlib.Omega.{arith}
 use native.Mathlib.Nat.{add-zero, zero-add, add-suc, suc-add, le_of_suc-le-suc, not-suc-le-zero}
 use lib.Dec.{T, eqb}
 use lib.ListN.{length}
@@ -114,7 +115,9 @@ in_right f (x ∷ xs) ys m = inr (in_right f xs ys m)
 in-numbered : (n b k m j : ℕ) → j < m → In (form n b (k + j)) (numbered n b k m)
 in-numbered n b k zero j h = absurd (not-suc-le-zero h)
 in-numbered n b k (suc m) zero h = inl (rw add-zero)
-in-numbered n b k (suc m) (suc j) h = inr (rw (add-suc, ← suc-add) (in-numbered n b (suc k) m j (le_of_suc-le-suc h)))
+in-numbered n b k (suc m) (suc j) h =
+    let e : suc k + j ≡ k + suc j = omega arith in
+    inr (subst (λ (x : ℕ). In (form n b x) (numbered n b (suc k) m)) e (in-numbered n b (suc k) m j (le_of_suc-le-suc h)))
 
 in-flagged : (n b m l j k : ℕ) → j < l → k < m → In (form n (b + j) k) (flagged n b m l)
 in-flagged n b m zero j k h q = absurd (not-suc-le-zero h)

@@ -1,4 +1,4 @@
-// The strings and styles as columns of numbers, an entry a line, in the order of specs/Printed.antt. Written by tools/texts.
+// The strings and styles as columns of numbers, in the order of specs/Printed.antt. Written by tools/texts.
 
 // The bytes of each string as one number, the last lowest.
 pub const STRINGS: [u64; 69] = [

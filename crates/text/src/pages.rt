@@ -1,4 +1,5 @@
-// "A listing page is a lent buffer and the place reached": the struct, and thin functions over the covered ones. Callers with a plain slice use `list`.
+// "A listing page is a lent buffer and the place reached": the struct, and thin functions over
+// those on a slice. Callers with a plain slice use `list`.
 ghost use Rattle.std.specs.Prelude.{◌≡◌};
 ghost use Rattle.text.specs.Answers.{answered, listed_on};
 

@@ -1,4 +1,4 @@
-// The two hex digits of each byte, an entry a line: the first one's letter, and above it the second one's.
+// The two hex digits of each byte: the first one's letter, and above it the second one's.
 
 pub const PAIRS: [u16; 256] = [
     0x3030, 0x3130, 0x3230, 0x3330, 0x3430, 0x3530, 0x3630, 0x3730, 0x3830, 0x3930, 0x6130, 0x6230,

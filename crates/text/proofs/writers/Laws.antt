@@ -1,17 +1,17 @@
 -- Laws of digits by the table of pairs.
 -- Assumes nothing.
-use mathlib.Core.Path.{◌≡◌, refl, sym, ap, ◌∙◌}
-use mathlib.Core.List.{List, [], ◌∷◌}
-use Prim.Native.Nat.{ℕ, zero, suc, ◌+◌, ◌*◌, ◌-◌, ◌/◌, ◌%◌, ◌<◌, ◌≤◌}
+use mathlib.Core.Path.{◌≡◌, sym, ap, ◌∙◌}
+use mathlib.Core.List.{List}
+use Prim.Native.Nat.{ℕ, ◌+◌, ◌*◌, ◌-◌, ◌/◌, ◌%◌, ◌<◌}
 use native.Mathlib.Omega.{arith}
 use lib.Dec.{ltb}
-use lib.ListN.{length, get_or, set, length-append}
-use lib.Seq.{sets, set_comm}
+use lib.ListN.{get_or, set}
+use lib.Seq.{sets}
 use Rattle.laws.specs.Choice.{either}
 use Rattle.laws.specs.Table.{value_at}
-use Rattle.syntax.specs.Digits.{spelled, digit, hex}
+use Rattle.syntax.specs.Digits.{digit, hex}
 use Rattle.text.specs.Packed.{pair_table}
-use Rattle.text.specs.Pages.{written, Wrote}
+use Rattle.text.specs.Pages.{Wrote}
 use Rattle.text.proofs.Spelled.{digit_next, digits_done}
 
 -- the same two digits at a time, by the table of pairs

@@ -1,6 +1,5 @@
 -- `text::forms::form_in` meets its contract. Assumes nothing.
 use Rattle.text.proofs.forms.Laws.{last_named, formed}
-use borrow.Author.Rules.{rules}
 use Rattle.text.proofs.forms.form_in.Goals as goal
 
 pub piece_lent-name-requires : goal.piece_lent-name-requires

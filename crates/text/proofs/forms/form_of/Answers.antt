@@ -1,7 +1,6 @@
 -- `text::forms::form_of` meets its contract. Assumes nothing.
 use Rattle.text.specs.Packed.{form_lent}
 use Rattle.text.proofs.forms.Laws.{style_named}
-use borrow.Author.Rules.{rules}
 use Rattle.text.proofs.forms.form_of.Goals as goal
 
 pub form_in-requires : goal.form_in-requires

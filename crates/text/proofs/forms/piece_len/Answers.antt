@@ -3,7 +3,6 @@
 use mathlib.Core.Path.{sym}
 use Rattle.text.proofs.forms.Laws.{length_piece}
 use native.Mathlib.Omega.{arith}
-use borrow.Author.Rules.{rules}
 use Rattle.text.proofs.forms.piece_len.Goals as goal
 
 pub returns : goal.returns

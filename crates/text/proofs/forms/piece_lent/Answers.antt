@@ -1,7 +1,6 @@
 -- `text::forms::piece_lent` meets its contract. Assumes nothing.
 use mathlib.Core.Path.{refl}
 use Rattle.text.specs.Packed.{piece_lent}
-use borrow.Author.Rules.{rules}
 use Rattle.text.proofs.forms.piece_lent.Goals as goal
 
 pub returns : goal.returns

@@ -3,7 +3,6 @@ use native.Mathlib.Omega.{arith}
 use Rattle.text.specs.Packed.{form_text}
 use Rattle.text.proofs.Written.{then}
 use Rattle.text.proofs.forms.Laws.{length_form}
-use borrow.Author.Rules.{rules}
 use Rattle.text.proofs.forms.put_form_lent.Goals as goal
 
 pub put_piece_lent-i-requires : goal.put_piece_lent-i-requires

@@ -5,7 +5,6 @@ use Rattle.text.proofs.Spelled.{length_spelled}
 use native.Mathlib.Omega.{arith}
 use Rattle.text.specs.Packed.{piece_text}
 use Rattle.text.proofs.forms.Laws.{length_piece}
-use borrow.Author.Rules.{rules}
 use Rattle.text.proofs.forms.put_piece.Goals as goal
 
 pub put_packed-a-requires : goal.put_packed-a-requires

@@ -4,7 +4,6 @@ use Rattle.text.specs.Packed.{piece_text}
 use Rattle.text.proofs.Written.{then}
 use Rattle.text.proofs.Spelled.{length_spelled}
 use Rattle.text.proofs.forms.Laws.{length_piece}
-use borrow.Author.Rules.{rules}
 use Rattle.text.proofs.forms.put_piece_lent.Goals as goal
 
 pub put_packed-a-requires : goal.put_packed-a-requires

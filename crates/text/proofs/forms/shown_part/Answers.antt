@@ -1,6 +1,5 @@
 -- `text::forms::shown_part` meets its contract. Assumes nothing.
 use Rattle.text.proofs.forms.Laws.{shown_is}
-use borrow.Author.Rules.{rules}
 use Rattle.text.proofs.forms.shown_part.Goals as goal
 
 pub returns : goal.returns

@@ -1,7 +1,6 @@
 -- `text::forms::style_at` meets its contract. Assumes nothing.
 use mathlib.Core.Path.{sym}
 use lib.ListN.{get_or-eq_default}
-use borrow.Author.Rules.{rules}
 use Rattle.text.proofs.forms.style_at.Goals as goal
 
 pub returns-else-n-styles : goal.returns-else-n-styles

@@ -1,6 +1,5 @@
 -- `text::lines::exact_number` meets its contract. Assumes nothing.
 use Rattle.text.proofs.texts.Laws.{read_here, refused_number, decoded_number}
-use borrow.Author.Rules.{rules}
 use Rattle.text.proofs.lines.exact_number.Goals as goal
 
 pub returns-in-Refused : goal.returns-in-Refused

@@ -1,6 +1,5 @@
 -- `text::lines::line_len` meets its contract. Assumes nothing.
 use native.Mathlib.Omega.{arith}
-use borrow.Author.Rules.{rules}
 use Rattle.text.proofs.lines.line_len.Goals as goal
 
 pub returns : goal.returns

@@ -1,6 +1,5 @@
 -- `text::lines::long_form` meets its contract. Assumes nothing.
 use Rattle.text.proofs.texts.Laws.{question_23}
-use borrow.Author.Rules.{rules}
 use Rattle.text.proofs.lines.long_form.Goals as goal
 
 pub returns : goal.returns

@@ -4,7 +4,6 @@ use Rattle.syntax.specs.Digits.{digit}
 use Rattle.text.specs.Lines.{line_of}
 use Rattle.text.proofs.Written.{then}
 use Rattle.text.proofs.Spelled.{length_spelled}
-use borrow.Author.Rules.{rules}
 use Rattle.text.proofs.lines.put_line.Goals as goal
 
 pub put_pairs-i-requires : goal.put_pairs-i-requires

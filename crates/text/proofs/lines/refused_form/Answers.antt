@@ -1,6 +1,5 @@
 -- `text::lines::refused_form` meets its contract. Assumes nothing.
 use Rattle.text.proofs.texts.Laws.{question}
-use borrow.Author.Rules.{rules}
 use Rattle.text.proofs.lines.refused_form.Goals as goal
 
 pub returns : goal.returns

@@ -4,7 +4,6 @@ use Rattle.text.specs.Packed.{form_text}
 use mathlib.Core.Path.{sym, ◌∙◌}
 use borrow.Author.Tests.{ltb-true, ltb-false}
 use Rattle.text.proofs.texts.Laws.{too_long_shown, shown_whole}
-use borrow.Author.Rules.{rules}
 use Rattle.text.proofs.lines.shown_form.Goals as goal
 
 pub returns-then-too_long : goal.returns-then-too_long

@@ -2,7 +2,6 @@
 use mathlib.Core.Path.{sym, ◌∙◌}
 use Rattle.words.proofs.Quick.{read_parts}
 use Rattle.text.proofs.texts.Laws.{numbered_word, decoded_word}
-use borrow.Author.Rules.{rules}
 use Rattle.text.proofs.lines.word_form.Goals as goal
 
 pub word_number-number-requires : goal.word_number-number-requires

@@ -2,7 +2,6 @@
 use mathlib.Core.Path.{refl, sym, ◌∙◌}
 use Rattle.words.proofs.Quick.{quick_lent}
 use Rattle.text.proofs.texts.Laws.{decoded_number}
-use borrow.Author.Rules.{rules}
 use Rattle.text.proofs.lines.word_number.Goals as goal
 
 pub returns-then-below_limits : goal.returns-then-below_limits

@@ -1,6 +1,5 @@
 -- `text::listing::list` meets its contract. Assumes nothing.
 use Rattle.text.proofs.Whole.{lists}
-use borrow.Author.Rules.{rules}
 use Rattle.text.proofs.listing.list.Goals as goal
 
 pub returns : goal.returns

@@ -1,6 +1,5 @@
 -- `text::listing::list_answer` meets its contract. Assumes nothing.
 use Rattle.text.proofs.listing.Laws.{listed_lawful, refused_list, whole_list}
-use borrow.Author.Rules.{rules}
 use Rattle.text.proofs.listing.list_answer.Goals as goal
 
 pub returns-then-n-ne0 : goal.returns-then-n-ne0

@@ -1,13 +1,8 @@
 -- `text::listing::list_lines` meets its contract. Assumes nothing.
 use Prim.Native.Nat.{◌-◌}
-use mathlib.Core.Path.{◌≡◌, refl, ◌∙◌}
+use mathlib.Core.Path.{◌≡◌}
 use lib.ListN.{length}
-use Rattle.text.specs.Packed.{form_text}
 use Rattle.text.specs.Lines.{listed}
-use Rattle.text.proofs.texts.Laws.{has_place}
-use Rattle.text.proofs.listing.Laws.{goes_on, stops, ends}
-use native.Mathlib.Omega.{arith}
-use borrow.Author.Rules.{rules}
 use Rattle.text.proofs.listing.list_lines.Given as goal
 
 abbrev pub invariant-loop-a : goal.invariant-loop-a

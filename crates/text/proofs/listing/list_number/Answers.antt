@@ -1,6 +1,5 @@
 -- `text::listing::list_number` meets its contract. Assumes nothing.
 use Rattle.text.proofs.listing.Laws.{number_1, number_2, number_18, number_0}
-use borrow.Author.Rules.{rules}
 use Rattle.text.proofs.listing.list_number.Goals as goal
 
 pub returns-then-not-lawful : goal.returns-then-not-lawful

@@ -3,7 +3,6 @@ use native.Mathlib.Omega.{arith}
 use Rattle.text.specs.Packed.{form_text}
 use Rattle.text.proofs.texts.Laws.{has_place}
 use Rattle.text.proofs.listing.Showing.{no_room_shown, room_shown}
-use borrow.Author.Rules.{rules}
 use Rattle.text.proofs.listing.put_shown.Goals as goal
 
 pub returns-then-not-has_room : goal.returns-then-not-has_room

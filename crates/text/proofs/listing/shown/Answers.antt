@@ -1,7 +1,6 @@
 -- `text::listing::shown` meets its contract. Assumes nothing.
 use Rattle.text.specs.Packed.{form_text}
 use Rattle.text.proofs.listing.Showing.{unlawful_shown, is_lawful, lawful_shown}
-use borrow.Author.Rules.{rules}
 use Rattle.text.proofs.listing.shown.Goals as goal
 
 pub returns-then-not-lawful : goal.returns-then-not-lawful

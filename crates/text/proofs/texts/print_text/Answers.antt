@@ -2,7 +2,6 @@
 use native.Mathlib.Omega.{arith}
 use Rattle.text.specs.Packed.{form_text}
 use Rattle.text.proofs.texts.Laws.{fits, not_printed, is_printed}
-use borrow.Author.Rules.{rules}
 use Rattle.text.proofs.texts.print_text.Goals as goal
 
 pub returns-then-n-ne0 : goal.returns-then-n-ne0

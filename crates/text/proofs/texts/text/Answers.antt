@@ -1,6 +1,5 @@
 -- `text::texts::text` meets its contract. Assumes nothing.
 use Rattle.text.proofs.texts.Laws.{read_as, refused_call, decoded_call}
-use borrow.Author.Rules.{rules}
 use Rattle.text.proofs.texts.text.Goals as goal
 
 pub returns-in-Refused : goal.returns-in-Refused

@@ -1,6 +1,5 @@
 -- `text::texts::text_form` meets its contract. Assumes nothing.
 use Rattle.text.proofs.forms.Laws.{form_right}
-use borrow.Author.Rules.{rules}
 use Rattle.text.proofs.texts.text_form.Goals as goal
 
 pub returns : goal.returns

@@ -2,7 +2,6 @@
 use Rattle.text.proofs.texts.Laws.{number_18, number_23, number_0}
 use borrow.Author.Tests.{ltb-true, ltb-false}
 use mathlib.Core.Path.{sym, ◌∙◌}
-use borrow.Author.Rules.{rules}
 use Rattle.text.proofs.texts.text_number.Goals as goal
 
 pub returns-then-not-has_room : goal.returns-then-not-has_room

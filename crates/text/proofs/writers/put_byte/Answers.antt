@@ -1,7 +1,6 @@
 -- `text::writers::put_byte` meets its contract. Assumes nothing.
 use mathlib.Core.Path.{refl}
 use Rattle.text.specs.Pages.{written}
-use borrow.Author.Rules.{rules}
 use Rattle.text.proofs.writers.put_byte.Goals as goal
 
 pub returns : goal.returns

@@ -1,9 +1,6 @@
 -- `text::writers::put_packed` meets its contract. Assumes nothing.
-use Prim.Native.Nat.{◌≤◌}
-use mathlib.Core.Path.{◌≡◌, refl}
-use lib.ListN.{length, length-set}
-use lib.Seq.{sets}
-use Rattle.syntax.specs.Digits.{spelled}
+use mathlib.Core.Path.{refl}
+use lib.ListN.{length-set}
 use Rattle.text.proofs.Spelled.{digit_next, digits_done}
 use native.Mathlib.Omega.{arith}
 use Rattle.text.proofs.writers.put_packed.Goals as goal

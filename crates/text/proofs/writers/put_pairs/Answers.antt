@@ -1,9 +1,8 @@
 -- `text::writers::put_pairs` meets its contract. Assumes nothing.
-use Prim.Native.Nat.{◌%◌, ◌≤◌}
-use mathlib.Core.Path.{◌≡◌, refl}
-use lib.ListN.{length, length-set}
-use lib.Seq.{sets}
-use Rattle.syntax.specs.Digits.{digit, hex}
+use Prim.Native.Nat.{◌%◌}
+use mathlib.Core.Path.{refl}
+use lib.ListN.{length-set}
+use Rattle.syntax.specs.Digits.{digit}
 use native.Mathlib.Omega.{arith}
 use Rattle.text.proofs.Spelled.{digits_done}
 use Rattle.text.proofs.writers.Laws.{pair_at, pair_next, digit_last}

@@ -1,12 +1,9 @@
 -- `text::writers::put_pairs` meets its contract. Assumes nothing.
-use Prim.Native.Nat.{◌%◌, ◌≤◌}
-use mathlib.Core.Path.{◌≡◌, refl}
-use lib.ListN.{length, length-set}
+use Prim.Native.Nat.{◌≤◌}
+use mathlib.Core.Path.{◌≡◌}
+use lib.ListN.{length}
 use lib.Seq.{sets}
-use Rattle.syntax.specs.Digits.{digit, hex}
-use native.Mathlib.Omega.{arith}
-use Rattle.text.proofs.Spelled.{digits_done}
-use Rattle.text.proofs.writers.Laws.{pair_at, pair_next, digit_last}
+use Rattle.syntax.specs.Digits.{hex}
 use Rattle.text.proofs.writers.put_pairs.Given as goal
 
 abbrev pub invariant-loop-i : goal.invariant-loop-i
