@@ -30,7 +30,7 @@ blocks_for n = (n + 125) / 126
 abbrev pub file_size : ℕ → ℕ
 file_size n = blocks_for n * 512 + 512
 
--- the first word of block 0's filling; the generics of the words before it are in config_of and headOf
+-- the first word of block 0's filling; the generics of the words before it are in config_of and head_of
 abbrev pub first_filling : ℕ
 first_filling = 15
 

@@ -1,15 +1,15 @@
 -- A bad line, and a malformed entry, has a number from 1 on. Assumes nothing.
-use Prim.Native.Nat.{ℕ, suc, ◌+◌, ◌*◌, ◌<◌}
+use Prim.Native.Nat.{ℕ, suc, ◌+◌, ◌*◌}
 use mathlib.Core.Bool.{Bool, true, false, not, ◌&&◌}
 use mathlib.Core.List.{List, [], ◌∷◌}
 use native.Mathlib.Omega.{arith}
 use lib.Dec.{eqb, ltb}
-use lib.ListN.{get_or, set, replicate}
+use lib.ListN.{get_or, set}
 use Rattle.laws.specs.Choice.{pick, either}
 use Rattle.syntax.specs.Lines.{newline}
 use Rattle.parsing.specs.Words.{Reading, good, bad, hex_value, before, words_from, words_in}
 use Rattle.parsing.specs.Entries.{entries_of}
-use Rattle.parsing.specs.Generics.{generic_count, given_by, Gathered, all, malformed, gather, gathered_in}
+use Rattle.parsing.specs.Generics.{generic_count, given_by, malformed, gather, gathered_in}
 use Rattle.parsing.specs.Claims.{LineFromOne, EntryFromOne}
 
 before_counted : (w : ℕ) (r : Reading) → LineFromOne r → LineFromOne (before w r)

@@ -7,16 +7,16 @@ use native.Mathlib.Numerals.{add-one}
 use native.Mathlib.Omega.{arith}
 use borrow.Author.Tests.{not-true}
 use lib.Dec.{T, eqb, eqb→eq}
-use lib.ListN.{length, get_or, take, drop, set, length-set}
+use lib.ListN.{length, get_or, drop, set}
 use lib.Seq.{sets, take-append_seam, drop-append-add, get_or-set_other}
 use Rattle.laws.specs.Choice.{pick, is_true}
 use Rattle.laws.specs.Lists.{all}
 use Rattle.laws.specs.Table.{every, at_every, values}
 use Rattle.syntax.specs.Lines.{newline, onto}
 use Rattle.parsing.specs.declared.Kind.TheVariants.{Name}
-use Rattle.parsing.specs.Decimals.{Number, number, value_of}
+use Rattle.parsing.specs.Decimals.{number, value_of}
 use Rattle.parsing.specs.Entries.{is_blank, equals, ended, entries_of, is_of, run_of, name_in, value_in}
-use Rattle.parsing.specs.Generics.{generic_count, generics, names, place_of, Given, given, giving, given_by, Gathered, all as every_value, malformed, gather}
+use Rattle.parsing.specs.Generics.{generic_count, generics, names, place_of, given, given_by, all as every_value, gather}
 use Rattle.parsing.proofs.entries.Laws.{run_first, run_none, entries_blank, entries_one, entries_onto}
 use Rattle.parsing.proofs.naming.Laws.{first}
 

@@ -1,16 +1,15 @@
 -- Words printed hex 8, one a line, are read back. Assumes nothing.
 use Prim.Native.Nat.{ℕ, zero, suc, ◌+◌, ◌*◌, ◌/◌, ◌%◌, ◌^◌, ◌<◌, ◌≤◌}
-use mathlib.Core.Path.{◌≡◌, refl, sym, ap, ◌∙◌}
-use mathlib.Core.Bool.{Bool, true, false}
+use mathlib.Core.Path.{◌≡◌, refl, ap, ◌∙◌}
+use mathlib.Core.Bool.{Bool}
 use mathlib.Core.List.{List, [], ◌∷◌, ◌++◌, append_assoc}
-use native.Mathlib.Nat.{pow-suc, mod-lt, div-lt_iff_lt-mul}
+use native.Mathlib.Nat.{pow-suc, mod-lt}
 use native.Mathlib.Omega.{arith}
 use lib.Dec.{T, ltb, eqb, eqb→eq, ltb→lt}
 use Rattle.laws.specs.Choice.{pick}
-use Rattle.laws.specs.Test.{Below}
 use Rattle.laws.specs.Table.{every, at_every}
 use Rattle.syntax.specs.Digits.{spelled, digit, hex}
-use Rattle.parsing.specs.Words.{Reading, good, bad, hex_value, before, words_from, words_in, printed}
+use Rattle.parsing.specs.Words.{hex_value, before, words_from, words_in, printed}
 use Rattle.parsing.specs.Claims.{PrintedWords}
 use Rattle.parsing.proofs.hex.Laws.{one_digit, ends_line}
 

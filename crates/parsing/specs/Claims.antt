@@ -6,7 +6,7 @@ use Rattle.parsing.specs.declared.Generics.{Generics}
 use Rattle.parsing.specs.declared.HexWords.{HexWords}
 use Rattle.parsing.specs.declared.Line.{Line}
 use Rattle.parsing.specs.declared.Span.{Span}
-use Rattle.parsing.specs.Words.{Reading, good, bad, before, words_from, words_in, Call, call, call_of, printed}
+use Rattle.parsing.specs.Words.{Reading, good, bad, before, words_from, words_in, call, call_of, printed}
 use Rattle.parsing.specs.Entries.{entries_of}
 use Rattle.parsing.specs.Generics.{Gathered, all, malformed, gather, gathered_in, generics_of}
 

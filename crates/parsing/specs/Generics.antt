@@ -1,5 +1,5 @@
 -- The generics that the entries of a CONFIG name: docs/commands.md, 'yam pack' and 'yam config'.
-use Rattle.std.specs.Prelude.{ℕ, suc, Bool, true, false, not, ◌&&◌, List, [], ◌∷◌, eqb, ltb, get_or, set, replicate}
+use Rattle.std.specs.Prelude.{ℕ, suc, Bool, true, false, not, ◌&&◌, List, [], ◌∷◌, ltb, get_or, set, replicate}
 use Prim.Native.String.{String}
 use Rattle.laws.specs.Choice.{pick}
 use Rattle.laws.specs.Lists.{column}

@@ -1,6 +1,6 @@
 -- Labels as numbers are told apart; the chains find what the list of entries holds; and entries answer as syntax's labels do.
 -- Assumes nothing.
-use mathlib.Core.Path.{◌≡◌, refl, ap, sym, ◌∙◌}
+use mathlib.Core.Path.{◌≡◌, refl, ap, sym, subst, ◌∙◌}
 use mathlib.Core.Bool.{Bool, true, false, not, ◌||◌, or_assoc, or-false}
 use mathlib.Core.List.{List, [], ◌∷◌, reverse_aux, reverse, reverse-reverse}
 use Prim.Native.Nat.{ℕ, zero, suc, ◌+◌, ◌-◌, ◌*◌, ◌%◌, ◌^◌, ◌<◌, ◌≤◌}
@@ -330,8 +330,11 @@ keyed_set keys places n x a (l ∷ ls) h k =
 pub keyed_insert : {heads nexts keys places : List ℕ} {n x a : ℕ} {heads' nexts' keys' places' : List ℕ} (seen : List Label) (s : List ℕ) →
     Keyed keys places seen → n ≡ length seen → n < 1024 → length keys ≡ 1024 → length places ≡ 1024 → Inserted heads nexts keys places n x a heads' nexts' keys' places' →
     x ≡ spell 0 s → T (is_label s) → T (all_small s) → Keyed keys' places' (label s a ∷ seen)
-keyed_insert {heads} {nexts} {keys} {places} {n} {x} {a} seen s k e h lk lp i q t u =
-    rw (i.keys_set, i.places_set, ← e) (t, u, get_or-set_same keys n x 0 (omega arith) ∙ q, get_or-set_same places n (capped a) 0 (omega arith), keyed_set keys places n x (capped a) seen (omega arith) k)
+keyed_insert {heads} {nexts} {keys} {places} {n} {x} {a} {keys' = keys'} {places' = places'} seen s k e h lk lp i q t u =
+    let older : Keyed keys' places' seen =
+    subst (λ ks. Keyed ks places' seen) (sym i.keys_set)
+    (subst (λ ps. Keyed (set keys n x) ps seen) (sym i.places_set) (keyed_set keys places n x (capped a) seen (omega arith) k)) in
+    rw (i.keys_set, i.places_set, ← e) (t, u, get_or-set_same keys n x 0 (omega arith) ∙ q, get_or-set_same places n (capped a) 0 (omega arith), older)
 
 place_entry : (places : List ℕ) (n : ℕ) → place_of places (suc n) ≡ get_or places n 0
 unfolding place_of pick

@@ -6,11 +6,10 @@ use mathlib.Core.List.{List, [], ◌∷◌}
 use native.Mathlib.Omega.{arith}
 use native.Mathlib.Numerals.{add-one}
 use borrow.Author.Tests.{eq-eqb, ne_eqb, lt-ltb, le-ltb, le-leb, lt-leb, leb-true, ltb-true, ltb-false, not-true, not-false}
-use lib.Dec.{T, ltb, leb}
+use lib.Dec.{ltb, leb}
 use lib.ListN.{length, get_or, drop, drop_of_length-le}
 use lib.Seq.{drop-cons}
 use Rattle.laws.specs.Choice.{pick}
-use Rattle.laws.specs.Test.{and_left, and_right}
 use Rattle.parsing.specs.declared.Decimal.{Decimal}
 use Rattle.parsing.specs.Decimals.{is_digit, Number, number, none, decimal_from, decimal_of, most_digits, most_value, at_most, value_of, limit, capped, answered}
 

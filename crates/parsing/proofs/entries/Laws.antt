@@ -1,9 +1,8 @@
 -- Laws of runs of bytes and of the entries of a text, in the shape that the code leaves. Assumes nothing.
-use Prim.Native.Nat.{ℕ, zero, suc, ◌+◌, ◌-◌, ◌<◌, ◌≤◌}
+use Prim.Native.Nat.{ℕ, suc, ◌+◌, ◌-◌, ◌<◌, ◌≤◌}
 use mathlib.Core.Path.{◌≡◌, refl, sym, ap, ◌∙◌}
 use mathlib.Core.Bool.{Bool, true, false, not}
 use mathlib.Core.List.{List, [], ◌∷◌}
-use native.Mathlib.Nat.{add-zero}
 use native.Mathlib.Numerals.{add-one}
 use native.Mathlib.Omega.{arith}
 use borrow.Author.Tests.{not-true, not-false}
@@ -12,8 +11,7 @@ use lib.Seq.{drop-cons, drop-drop, take_all}
 use Rattle.laws.specs.Choice.{pick}
 use Rattle.syntax.specs.Lines.{onto}
 use Rattle.parsing.specs.declared.Kind.{Kind}
-use Rattle.parsing.specs.declared.Kind.TheVariants.{Blank, Filled, Name}
-use Rattle.parsing.specs.declared.Span.{Span}
+use Rattle.parsing.specs.declared.Kind.TheVariants.{Blank, Filled}
 use Rattle.parsing.specs.Entries.{is_blank, ended, entries_of, is_of, run_of}
 use Rattle.parsing.specs.Claims.{Next}
 

@@ -6,16 +6,16 @@ use mathlib.Core.List.{List, [], ◌∷◌}
 use native.Mathlib.Nat.{add-zero, zero-add, pow-suc, pow-le-pow_right}
 use native.Mathlib.Numerals.{add-one}
 use native.Mathlib.Omega.{arith}
-use borrow.Author.Tests.{eq-eqb, ne_eqb, lt-ltb, le-ltb, ltb-true, ltb-false, leb-true, eqb-true, eqb-false, not-true, not-false}
+use borrow.Author.Tests.{eq-eqb, ne_eqb, lt-ltb, ltb-true, ltb-false, leb-true, eqb-true, eqb-false, not-true, not-false}
 use lib.Dec.{eqb, leb, ltb}
 use lib.ListN.{length, get_or, drop, set, drop_of_length-le}
-use lib.Seq.{drop-cons, sets}
+use lib.Seq.{drop-cons}
 use Rattle.laws.specs.Choice.{pick}
 use Rattle.parsing.specs.declared.HexWords.{HexWords}
 use Rattle.parsing.specs.declared.Line.{Line}
 use Rattle.parsing.specs.Decimals.{is_digit}
-use Rattle.parsing.specs.Words.{Reading, good, bad, hex_value, before, words_from, words_in, Call, call, call_of}
-use Rattle.parsing.specs.Claims.{ReadsLine, Outcome, whole, broken, outcome, outcome_of, Heard}
+use Rattle.parsing.specs.Words.{Reading, good, bad, hex_value, before, words_from, words_in, call, call_of}
+use Rattle.parsing.specs.Claims.{ReadsLine, whole, broken, outcome, outcome_of, Heard}
 use Rattle.parsing.proofs.decimals.Laws.{digit_range}
 
 never : {A : Type 0} → true ≡ false → A

@@ -3,24 +3,22 @@ use Prim.Native.Nat.{ℕ, zero, suc, ◌+◌, ◌-◌, ◌<◌, ◌≤◌}
 use mathlib.Core.Path.{◌≡◌, refl, sym, ap, ◌∙◌}
 use mathlib.Core.Bool.{Bool, true, false, not, ◌&&◌}
 use mathlib.Core.List.{List, [], ◌∷◌}
-use native.Mathlib.Nat.{add-zero, zero-add}
 use native.Mathlib.Numerals.{add-one}
 use native.Mathlib.Omega.{arith}
 use borrow.Author.Tests.{eq-eqb, ne_eqb, lt-ltb, le-ltb, not-true, not-false}
-use lib.Dec.{eqb, ltb}
+use lib.Dec.{eqb}
 use lib.ListN.{length, get_or, take, drop, set, replicate, drop_of_length-le}
-use lib.Seq.{drop-cons, take_all}
+use lib.Seq.{drop-cons}
 use Rattle.laws.specs.Choice.{pick}
-use Rattle.laws.specs.Lists.{get_d_inside}
 use Rattle.syntax.specs.Pieces.{equal}
 use Rattle.words.specs.declared.Config.{Config}
 use Rattle.parsing.specs.declared.Decimal.{Decimal}
 use Rattle.parsing.specs.declared.Generics.{Generics}
 use Rattle.parsing.specs.declared.Span.{Span}
 use Rattle.parsing.specs.declared.Kind.TheVariants.{Name}
-use Rattle.parsing.specs.Decimals.{Number, number, none, decimal_of, value_of, at_most, most_value, most_digits, limit, capped, answered}
+use Rattle.parsing.specs.Decimals.{Number, number, none, value_of, most_value, capped, answered}
 use Rattle.parsing.specs.Entries.{entries_of, run_of, name_in, value_in}
-use Rattle.parsing.specs.Generics.{generic_count, generics, names, defaults, config_of, place_of, Given, given, giving, given_by, Gathered, all, malformed, gather, gathered_in, generics_of}
+use Rattle.parsing.specs.Generics.{generic_count, generics, names, defaults, config_of, place_of, Given, given, giving, given_by, malformed, gather, gathered_in, generics_of}
 use Rattle.parsing.specs.Claims.{Next, gathered, GathersAll}
 use Rattle.parsing.proofs.decimals.Laws.{cap_same, within}
 use Rattle.parsing.proofs.entries.Laws.{tail}

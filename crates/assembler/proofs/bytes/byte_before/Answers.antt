@@ -1,7 +1,6 @@
 -- `assembler::bytes::byte_before` meets its contract. Assumes nothing.
 use native.Mathlib.Omega.{arith}
 use Rattle.assembler.proofs.bytes.Laws.{before_start, before_end}
-use borrow.Author.Rules.{rules}
 use Rattle.assembler.proofs.bytes.byte_before.Goals as goal
 
 pub returns-then-j-n : goal.returns-then-j-n

@@ -1,11 +1,8 @@
 -- `assembler::bytes::letters_in` meets its contract. Assumes nothing.
 use Prim.Native.Nat.{◌+◌, ◌-◌, ◌≤◌}
 use mathlib.Core.Path.{◌≡◌}
-use native.Mathlib.Omega.{arith}
 use lib.ListN.{length, drop}
 use Rattle.syntax.specs.Lines.{letters_of}
-use borrow.Author.Rules.{rules}
-use Rattle.assembler.proofs.bytes.Laws.{letters_more, letters_end, letters_all}
 use Rattle.assembler.proofs.bytes.letters_in.Given as goal
 
 abbrev pub invariant-loop-j : goal.invariant-loop-j

@@ -1,9 +1,6 @@
 -- `assembler::bytes::line_end` meets its contract. Assumes nothing.
-use Prim.Native.Nat.{◌-◌}
 use native.Mathlib.Omega.{arith}
 use lib.Count.{trailing_le}
-use lib.ListN.{length}
-use Rattle.assembler.specs.Bytes.{Skipped}
 use Rattle.assembler.proofs.bytes.Laws.{skipped_none, skipped_more, ends_in_block, ends_after}
 use Rattle.assembler.proofs.bytes.line_end.Goals as goal
 
@@ -22,7 +19,6 @@ overflow_cast-result c = let t = trailing_le 32 c.newlines-m.result in omega ari
 pub overflow_add-result : goal.overflow_add-result
 overflow_add-result c = let t = trailing_le 32 c.newlines-m.result in
     let i = c.loop-j.invariant.inside in
-    let k = c.well-formed.0.1 in
     omega arith
 
 pub returns-then-m-ne0 : goal.returns-then-m-ne0
@@ -31,7 +27,7 @@ returns-then-m-ne0 c = let h = c.loop-j-test.true in
     ends_in_block _ _ c.loop-j.j _ c.loop-j.invariant (omega arith) c.newlines-m.ensures c.if-m-ne0.true
 
 pub overflow_add-j : goal.overflow_add-j
-overflow_add-j c = let i = c.loop-j.invariant.inside in let k = c.well-formed.0.1 in omega arith
+overflow_add-j c = let i = c.loop-j.invariant.inside in omega arith
 
 pub loop-j-smaller : goal.loop-j-smaller
 loop-j-smaller c = let h = c.loop-j-test.true in let i = c.loop-j.invariant.inside in omega arith

@@ -1,10 +1,7 @@
 -- `assembler::bytes::line_end` meets its contract. Assumes nothing.
 use Prim.Native.Nat.{◌-◌}
-use native.Mathlib.Omega.{arith}
-use lib.Count.{trailing_le}
 use lib.ListN.{length}
 use Rattle.assembler.specs.Bytes.{Skipped}
-use Rattle.assembler.proofs.bytes.Laws.{skipped_none, skipped_more, ends_in_block, ends_after}
 use Rattle.assembler.proofs.bytes.line_end.Given as goal
 
 abbrev pub invariant-loop-j : goal.invariant-loop-j

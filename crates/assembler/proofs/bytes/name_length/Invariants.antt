@@ -1,10 +1,8 @@
 -- `assembler::bytes::name_length` meets its contract. Assumes nothing.
 use Prim.Native.Nat.{◌+◌, ◌-◌, ◌≤◌}
 use mathlib.Core.Path.{◌≡◌}
-use native.Mathlib.Omega.{arith}
 use lib.ListN.{length, drop}
 use Rattle.syntax.specs.Labels.{name_length}
-use Rattle.assembler.proofs.bytes.Laws.{name_more, name_ends, name_all}
 use Rattle.assembler.proofs.bytes.name_length.Given as goal
 
 abbrev pub invariant-loop-j : goal.invariant-loop-j

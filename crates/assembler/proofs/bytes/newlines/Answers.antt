@@ -1,9 +1,6 @@
 -- `assembler::bytes::newlines` meets its contract. Assumes nothing.
-use Prim.Native.Nat.{◌+◌, ◌-◌, ◌≤◌}
-use mathlib.Core.Path.{◌≡◌}
+use Prim.Native.Nat.{◌+◌, ◌-◌}
 use native.Mathlib.Omega.{arith}
-use borrow.Author.Rules.{rules}
-use Rattle.assembler.specs.Bytes.{newlines_in}
 use Rattle.assembler.proofs.bytes.Laws.{newlines_few, newlines_more, newlines_start, newlines_done}
 use Rattle.assembler.proofs.bytes.newlines.Goals as goal
 

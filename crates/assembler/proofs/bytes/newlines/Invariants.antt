@@ -1,10 +1,7 @@
 -- `assembler::bytes::newlines` meets its contract. Assumes nothing.
 use Prim.Native.Nat.{◌+◌, ◌-◌, ◌≤◌}
 use mathlib.Core.Path.{◌≡◌}
-use native.Mathlib.Omega.{arith}
-use borrow.Author.Rules.{rules}
 use Rattle.assembler.specs.Bytes.{newlines_in}
-use Rattle.assembler.proofs.bytes.Laws.{newlines_few, newlines_more, newlines_start, newlines_done}
 use Rattle.assembler.proofs.bytes.newlines.Given as goal
 
 abbrev pub invariant-loop-j : goal.invariant-loop-j

@@ -1,8 +1,5 @@
 -- `assembler::bytes::next_newline` meets its contract. The loop's invariant: no newline was passed. Assumes nothing.
-use Prim.Native.Nat.{ℕ, ◌-◌, ◌<◌, ◌≤◌}
-use mathlib.Core.Path.{◌≡◌}
 use native.Mathlib.Omega.{arith}
-use lib.ListN.{length, get_or}
 use Rattle.assembler.proofs.bytes.Laws.{line_more}
 use Rattle.assembler.proofs.bytes.next_newline.Goals as goal
 

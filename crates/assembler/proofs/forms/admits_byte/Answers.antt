@@ -1,5 +1,4 @@
 -- `assembler::forms::admits_byte` meets its contract. Assumes nothing.
-use borrow.Author.Rules.{rules}
 use Rattle.assembler.proofs.forms.Laws.{admits_is}
 use Rattle.assembler.proofs.forms.admits_byte.Goals as goal
 

@@ -1,10 +1,6 @@
 -- `assembler::forms::differs` meets its contract. Assumes nothing.
-use Prim.Native.Nat.{◌-◌, ◌≤◌}
-use mathlib.Core.Bool.{not}
-use mathlib.Core.Path.{◌≡◌, refl}
+use mathlib.Core.Path.{refl}
 use native.Mathlib.Omega.{arith}
-use borrow.Author.Rules.{rules}
-use Rattle.assembler.specs.Packed.{matching}
 use Rattle.assembler.proofs.forms.Laws.{differs_more, differs_done}
 use Rattle.assembler.proofs.forms.differs.Goals as goal
 

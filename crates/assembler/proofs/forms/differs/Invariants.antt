@@ -1,11 +1,8 @@
 -- `assembler::forms::differs` meets its contract. Assumes nothing.
 use Prim.Native.Nat.{◌-◌, ◌≤◌}
 use mathlib.Core.Bool.{not}
-use mathlib.Core.Path.{◌≡◌, refl}
-use native.Mathlib.Omega.{arith}
-use borrow.Author.Rules.{rules}
+use mathlib.Core.Path.{◌≡◌}
 use Rattle.assembler.specs.Packed.{matching}
-use Rattle.assembler.proofs.forms.Laws.{differs_more, differs_done}
 use Rattle.assembler.proofs.forms.differs.Given as goal
 
 abbrev pub invariant-loop-j : goal.invariant-loop-j

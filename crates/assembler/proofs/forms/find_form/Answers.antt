@@ -1,8 +1,7 @@
 -- `assembler::forms::find_form` meets its contract. The loop's invariant: where a form claims the line, it is among those that are left. Assumes nothing.
 use mathlib.Core.Path.{refl}
 use native.Mathlib.Omega.{arith}
-use borrow.Author.Rules.{rules}
-use Rattle.assembler.proofs.Heads.{Left, left_first, left_next, form_ready, finds_none, finds_left, finds_one}
+use Rattle.assembler.proofs.Heads.{left_first, left_next, form_ready, finds_none, finds_left, finds_one}
 use Rattle.assembler.proofs.forms.find_form.Goals as goal
 
 pub returns-then-n-gt-PATTERN : goal.returns-then-n-gt-PATTERN

@@ -1,8 +1,5 @@
 -- `assembler::forms::find_form` meets its contract. The loop's invariant: where a form claims the line, it is among those that are left. Assumes nothing.
-use mathlib.Core.Path.{refl}
-use native.Mathlib.Omega.{arith}
-use borrow.Author.Rules.{rules}
-use Rattle.assembler.proofs.Heads.{Left, left_first, left_next, form_ready, finds_none, finds_left, finds_one}
+use Rattle.assembler.proofs.Heads.{Left}
 use Rattle.assembler.proofs.forms.find_form.Given as goal
 
 abbrev pub invariant-loop-q : goal.invariant-loop-q

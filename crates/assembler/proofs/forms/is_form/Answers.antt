@@ -2,7 +2,6 @@
 use Prim.Native.Nat.{◌+◌, ◌*◌}
 use mathlib.Core.Path.{refl}
 use native.Mathlib.Omega.{arith}
-use borrow.Author.Rules.{rules}
 use Rattle.assembler.proofs.forms.Laws.{form_then, form_else}
 use Rattle.assembler.proofs.forms.is_form.Goals as goal
 

@@ -1,5 +1,4 @@
 -- `assembler::forms::key_of` meets its contract. Assumes nothing.
-use borrow.Author.Rules.{rules}
 use Rattle.assembler.proofs.forms.Laws.{key_is}
 use Rattle.assembler.proofs.forms.key_of.Goals as goal
 

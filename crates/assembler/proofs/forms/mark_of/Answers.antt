@@ -1,6 +1,5 @@
 -- `assembler::forms::mark_of` meets its contract. Assumes nothing.
 use native.Mathlib.Omega.{arith}
-use borrow.Author.Rules.{rules}
 use Rattle.assembler.proofs.forms.Laws.{mark_digit, mark_other}
 use Rattle.assembler.proofs.forms.mark_of.Goals as goal
 

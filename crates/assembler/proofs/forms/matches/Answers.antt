@@ -1,5 +1,4 @@
 -- `assembler::forms::matches` meets its contract. Assumes nothing.
-use borrow.Author.Rules.{rules}
 use Rattle.assembler.proofs.forms.Laws.{matches_is, matches_wide}
 use Rattle.assembler.proofs.forms.matches.Goals as goal
 

@@ -1,10 +1,7 @@
 -- `assembler::forms::number_at` meets its contract. Assumes nothing.
-use Prim.Native.Nat.{◌+◌, ◌-◌, ◌*◌, ◌^◌, ◌≤◌}
-use mathlib.Core.Path.{◌≡◌, refl}
-use borrow.Author.Rules.{rules}
+use Prim.Native.Nat.{◌+◌}
+use mathlib.Core.Path.{refl}
 use native.Mathlib.Omega.{arith}
-use lib.ListN.{drop}
-use Rattle.syntax.specs.Pieces.{number_in}
 use Rattle.assembler.proofs.forms.Laws.{pow_small, number_more, bound_more, number_done}
 use Rattle.assembler.proofs.forms.number_at.Goals as goal
 

@@ -1,11 +1,8 @@
 -- `assembler::forms::number_at` meets its contract. Assumes nothing.
 use Prim.Native.Nat.{◌+◌, ◌-◌, ◌*◌, ◌^◌, ◌≤◌}
-use mathlib.Core.Path.{◌≡◌, refl}
-use borrow.Author.Rules.{rules}
-use native.Mathlib.Omega.{arith}
+use mathlib.Core.Path.{◌≡◌}
 use lib.ListN.{drop}
 use Rattle.syntax.specs.Pieces.{number_in}
-use Rattle.assembler.proofs.forms.Laws.{pow_small, number_more, bound_more, number_done}
 use Rattle.assembler.proofs.forms.number_at.Given as goal
 
 abbrev pub invariant-loop-j : goal.invariant-loop-j

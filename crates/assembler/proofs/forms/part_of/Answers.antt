@@ -1,6 +1,5 @@
 -- `assembler::forms::part_of` meets its contract. Assumes nothing.
 use mathlib.Core.Path.{refl}
-use borrow.Author.Rules.{rules}
 use Rattle.assembler.proofs.forms.Laws.{part_is}
 use Rattle.assembler.proofs.forms.part_of.Goals as goal
 

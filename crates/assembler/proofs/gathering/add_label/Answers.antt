@@ -1,8 +1,5 @@
 -- `assembler::gathering::add_label` meets its contract. Assumes nothing.
-use native.Mathlib.Omega.{arith}
-use lib.ListN.{length-set}
 use Rattle.assembler.proofs.gathering.Laws.{added_none, added_one}
-use borrow.Author.Rules.{rules}
 use Rattle.assembler.proofs.gathering.add_label.Goals as goal
 
 pub returns-then-x-eq0 : goal.returns-then-x-eq0

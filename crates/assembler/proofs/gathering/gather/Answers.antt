@@ -1,11 +1,8 @@
 -- `assembler::gathering::gather` meets its contract. The loop's invariant: what is left of the lines, after what is gathered, is the whole. Assumes nothing.
-use Prim.Native.Nat.{ℕ, suc, ◌-◌}
 use mathlib.Core.Path.{refl}
-use lib.ListN.{length}
 use native.Mathlib.Omega.{arith}
 use Rattle.syntax.specs.Lines.{lines_of}
-use Rattle.assembler.proofs.gathering.Laws.{opens_here, counts_here, Going, going_first, going_on, labels_many, words_many, labels_fail, words_fail, too_many, full, not_full, spent, not_spent, doubled, all_gathered}
-use borrow.Author.Rules.{rules}
+use Rattle.assembler.proofs.gathering.Laws.{opens_here, counts_here, going_first, going_on, labels_many, words_many, labels_fail, words_fail, too_many, full, not_full, spent, not_spent, doubled, all_gathered}
 use Rattle.assembler.proofs.gathering.gather.Goals as goal
 
 pub loop-s-init : goal.loop-s-init
@@ -73,13 +70,13 @@ add_label-labels-requires c = let t = c.loop-s.invariant.tabled in
     (t.roomy, t.few, (λ z. not_full _ _ c.if-x-labels.false t.few z), c.open_line-o.ensures.key_small)
 
 pub one_more-words-requires : goal.one_more-words-requires
-one_more-words-requires c = let w = c.loop-s.invariant.words_few.1 in let s = c.loop-s-test.true in let g = c.well-formed.0.1 in omega arith
+one_more-words-requires c = let w = c.loop-s.invariant.words_few.1 in let s = c.loop-s-test.true in omega arith
 
 pub overflow_add-line : goal.overflow_add-line
-overflow_add-line c = let w = c.loop-s.invariant.numbered.1 in let s = c.loop-s-test.true in let g = c.well-formed.0.1 in omega arith
+overflow_add-line c = let w = c.loop-s.invariant.numbered.1 in let s = c.loop-s-test.true in omega arith
 
 pub overflow_add-s : goal.overflow_add-s
-overflow_add-s c = let w = c.line_end-e.ensures.inside in let g = c.well-formed.0.1 in omega arith
+overflow_add-s c = let w = c.line_end-e.ensures.inside in omega arith
 
 pub loop-s-smaller : goal.loop-s-smaller
 loop-s-smaller c = let w = c.line_end-e.ensures.forward in let s = c.loop-s-test.true in omega arith

@@ -1,11 +1,7 @@
 -- `assembler::gathering::gather` meets its contract. The loop's invariant: what is left of the lines, after what is gathered, is the whole. Assumes nothing.
-use Prim.Native.Nat.{ℕ, suc, ◌-◌}
-use mathlib.Core.Path.{refl}
+use Prim.Native.Nat.{suc, ◌-◌}
 use lib.ListN.{length}
-use native.Mathlib.Omega.{arith}
-use Rattle.syntax.specs.Lines.{lines_of}
-use Rattle.assembler.proofs.gathering.Laws.{opens_here, counts_here, Going, going_first, going_on, labels_many, words_many, labels_fail, words_fail, too_many, full, not_full, spent, not_spent, doubled, all_gathered}
-use borrow.Author.Rules.{rules}
+use Rattle.assembler.proofs.gathering.Laws.{Going}
 use Rattle.assembler.proofs.gathering.gather.Given as goal
 
 abbrev pub invariant-loop-s : goal.invariant-loop-s

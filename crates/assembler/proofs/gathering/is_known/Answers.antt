@@ -1,6 +1,5 @@
 -- `assembler::gathering::is_known` meets its contract. Assumes nothing.
 use Rattle.assembler.proofs.gathering.Laws.{known_none, known_some}
-use borrow.Author.Rules.{rules}
 use Rattle.assembler.proofs.gathering.is_known.Goals as goal
 
 pub returns-then-x-eq0 : goal.returns-then-x-eq0

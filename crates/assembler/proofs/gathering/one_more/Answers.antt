@@ -1,6 +1,5 @@
 -- `assembler::gathering::one_more` meets its contract. Assumes nothing.
 use Rattle.assembler.proofs.gathering.Laws.{more, other}
-use borrow.Author.Rules.{rules}
 use Rattle.assembler.proofs.gathering.one_more.Goals as goal
 
 pub returns-then-counted : goal.returns-then-counted

@@ -1,7 +1,6 @@
 -- `assembler::labels::address_of` meets its contract. Assumes nothing.
 use native.Mathlib.Omega.{arith}
 use Rattle.assembler.proofs.labels.Laws.{lookup_le, place_none, place_some}
-use borrow.Author.Rules.{rules}
 use Rattle.assembler.proofs.labels.address_of.Goals as goal
 
 pub returns-then-k-eq0 : goal.returns-then-k-eq0

@@ -1,7 +1,6 @@
 -- `assembler::labels::cap` meets its contract. Assumes nothing.
 use native.Mathlib.Omega.{arith}
 use Rattle.assembler.proofs.labels.Laws.{capped_near, capped_far}
-use borrow.Author.Rules.{rules}
 use Rattle.assembler.proofs.labels.cap.Goals as goal
 
 pub returns-then-address-lt-FAR : goal.returns-then-address-lt-FAR

@@ -1,7 +1,6 @@
 -- `assembler::labels::find` meets its contract. Assumes nothing.
 use native.Mathlib.Omega.{arith}
-use borrow.Author.Rules.{rules}
-use Rattle.assembler.proofs.labels.Laws.{Sought, sought_first, sought_next, sought_found, sought_none}
+use Rattle.assembler.proofs.labels.Laws.{sought_first, sought_next, sought_found, sought_none}
 use Rattle.assembler.proofs.labels.find.Goals as goal
 
 pub loop-k-init : goal.loop-k-init

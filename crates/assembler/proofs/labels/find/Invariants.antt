@@ -1,7 +1,5 @@
 -- `assembler::labels::find` meets its contract. Assumes nothing.
-use native.Mathlib.Omega.{arith}
-use borrow.Author.Rules.{rules}
-use Rattle.assembler.proofs.labels.Laws.{Sought, sought_first, sought_next, sought_found, sought_none}
+use Rattle.assembler.proofs.labels.Laws.{Sought}
 use Rattle.assembler.proofs.labels.find.Given as goal
 
 abbrev pub invariant-loop-k : goal.invariant-loop-k

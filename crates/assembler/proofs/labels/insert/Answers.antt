@@ -1,7 +1,6 @@
 -- `assembler::labels::insert` meets its contract. Assumes nothing.
 use native.Mathlib.Omega.{arith}
 use Rattle.assembler.proofs.labels.Laws.{hash_small, inserted}
-use borrow.Author.Rules.{rules}
 use Rattle.assembler.proofs.labels.insert.Goals as goal
 
 pub offset_bounds-heads-h : goal.offset_bounds-heads-h

@@ -1,7 +1,6 @@
 -- `assembler::labels::key_at` meets its contract. Assumes nothing.
 use mathlib.Core.Path.{sym}
 use lib.ListN.{get_or-eq_default}
-use borrow.Author.Rules.{rules}
 use Rattle.assembler.proofs.labels.key_at.Goals as goal
 
 pub returns-else-i-t : goal.returns-else-i-t

@@ -1,11 +1,9 @@
 -- `assembler::labels::label_key` meets its contract. Assumes nothing.
-use Prim.Native.Nat.{◌+◌, ◌-◌, ◌^◌, ◌<◌, ◌≤◌}
-use mathlib.Core.Path.{◌≡◌, refl}
+use Prim.Native.Nat.{◌+◌}
+use mathlib.Core.Path.{refl}
 use native.Mathlib.Omega.{arith}
-use lib.ListN.{get_or, drop}
-use mathlib.Core.Bool.{◌||◌}
-use Rattle.syntax.specs.Lines.{letters_of, beyond}
-use Rattle.assembler.specs.Chains.{spell}
+use lib.ListN.{get_or}
+use Rattle.syntax.specs.Lines.{letters_of}
 use Rattle.assembler.proofs.labels.Laws.{letters_at, letters_inside, spell_more, beyond_more, bound_more, bound_small, key_long, key_yes, key_no}
 use Rattle.assembler.proofs.labels.label_key.Goals as goal
 

@@ -1,6 +1,5 @@
 -- `assembler::lines::keep_word` meets its contract. Assumes nothing.
 use Rattle.assembler.proofs.lines.Laws.{kept_in, kept_out, kept_not}
-use borrow.Author.Rules.{rules}
 use Rattle.assembler.proofs.lines.keep_word.Goals as goal
 
 pub returns-then-n-words : goal.returns-then-n-words

@@ -1,10 +1,7 @@
 -- `assembler::lines::read_lines` meets its contract. The loop's invariant: what is left of the lines, after what is read, is the whole. Assumes nothing.
-use Prim.Native.Nat.{ℕ, suc, ◌-◌}
 use mathlib.Core.Path.{refl}
-use lib.ListN.{length}
 use native.Mathlib.Omega.{arith}
-use Rattle.assembler.proofs.lines.Laws.{searched, Passing, passing_first, bad_line, good_line, all_passed}
-use borrow.Author.Rules.{rules}
+use Rattle.assembler.proofs.lines.Laws.{searched, passing_first, bad_line, good_line, all_passed}
 use Rattle.assembler.proofs.lines.read_lines.Goals as goal
 
 pub loop-s-init : goal.loop-s-init
@@ -24,13 +21,13 @@ pub returns-then-r-ne0 : goal.returns-then-r-ne0
 returns-then-r-ne0 c = bad_line c.args.c c.args.text.now c.args.words.now c.args.keep _ _ _ _ c.loop-s.invariant _ c.line_end-e.ensures c.args.chains.now c.args.nexts.now c.args.keys.now c.args.places.now c.args.labels c.requires.2 _ c.word_of_line-r.ensures _ _ c.if-r-ne0.true refl refl refl refl
 
 pub one_more-count-requires : goal.one_more-count-requires
-one_more-count-requires c = let f = c.loop-s.invariant.few in let s = c.loop-s-test.true in let g = c.well-formed.1.1.1.1.1.1.1.1.1.1.1.1.1.0.1 in omega arith
+one_more-count-requires c = let f = c.loop-s.invariant.few in let s = c.loop-s-test.true in omega arith
 
 pub overflow_add-line : goal.overflow_add-line
-overflow_add-line c = let f = c.loop-s.invariant.numbered in let s = c.loop-s-test.true in let g = c.well-formed.1.1.1.1.1.1.1.1.1.1.1.1.1.0.1 in omega arith
+overflow_add-line c = let f = c.loop-s.invariant.numbered in let s = c.loop-s-test.true in omega arith
 
 pub overflow_add-s : goal.overflow_add-s
-overflow_add-s c = let f = c.line_end-e.ensures.inside in let g = c.well-formed.1.1.1.1.1.1.1.1.1.1.1.1.1.0.1 in omega arith
+overflow_add-s c = let f = c.line_end-e.ensures.inside in omega arith
 
 pub loop-s-smaller : goal.loop-s-smaller
 loop-s-smaller c = let f = c.line_end-e.ensures.forward in let s = c.loop-s-test.true in omega arith

@@ -1,10 +1,7 @@
 -- `assembler::lines::read_lines` meets its contract. The loop's invariant: what is left of the lines, after what is read, is the whole. Assumes nothing.
-use Prim.Native.Nat.{ℕ, suc, ◌-◌}
-use mathlib.Core.Path.{refl}
+use Prim.Native.Nat.{suc, ◌-◌}
 use lib.ListN.{length}
-use native.Mathlib.Omega.{arith}
-use Rattle.assembler.proofs.lines.Laws.{searched, Passing, passing_first, bad_line, good_line, all_passed}
-use borrow.Author.Rules.{rules}
+use Rattle.assembler.proofs.lines.Laws.{Passing}
 use Rattle.assembler.proofs.lines.read_lines.Given as goal
 
 abbrev pub invariant-loop-s : goal.invariant-loop-s

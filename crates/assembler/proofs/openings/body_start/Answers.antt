@@ -1,6 +1,5 @@
 -- `assembler::openings::body_start` meets its contract. Assumes nothing.
 use Rattle.assembler.proofs.openings.Laws.{body_plain, body_behind, body_whole}
-use borrow.Author.Rules.{rules}
 use Rattle.assembler.proofs.openings.body_start.Goals as goal
 
 pub returns-then-o-eq0 : goal.returns-then-o-eq0

@@ -1,6 +1,5 @@
 -- `assembler::openings::counts` meets its contract. Assumes nothing.
 use Rattle.assembler.proofs.openings.Laws.{counts_is}
-use borrow.Author.Rules.{rules}
 use Rattle.assembler.proofs.openings.counts.Goals as goal
 
 pub returns : goal.returns

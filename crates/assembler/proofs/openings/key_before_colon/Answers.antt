@@ -1,8 +1,6 @@
 -- `assembler::openings::key_before_colon` meets its contract. Assumes nothing.
-use mathlib.Core.Path.{◌∙◌}
 use native.Mathlib.Omega.{arith}
 use Rattle.assembler.proofs.openings.Laws.{key_there, key_missing}
-use borrow.Author.Rules.{rules}
 use Rattle.assembler.proofs.openings.key_before_colon.Goals as goal
 
 pub returns-then-byte_at-eq-COLON : goal.returns-then-byte_at-eq-COLON

@@ -1,6 +1,5 @@
 -- `assembler::source::read_twice` meets its contract. Assumes nothing.
 use Rattle.assembler.proofs.source.Laws.{first_bad, both_good}
-use borrow.Author.Rules.{rules}
 use Rattle.assembler.proofs.source.read_twice.Goals as goal
 
 pub returns-then-checked-ne0 : goal.returns-then-checked-ne0

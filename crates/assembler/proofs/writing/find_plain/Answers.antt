@@ -1,6 +1,4 @@
 -- `assembler::writing::find_plain` meets its contract. Assumes nothing.
-use native.Mathlib.Omega.{arith}
-use borrow.Author.Rules.{rules}
 use Rattle.assembler.proofs.writing.Laws.{finds_far}
 use Rattle.assembler.proofs.writing.find_plain.Goals as goal
 

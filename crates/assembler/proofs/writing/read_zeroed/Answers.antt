@@ -4,7 +4,6 @@ use native.Mathlib.Nat.{zero-add}
 use native.Mathlib.Omega.{arith}
 use Rattle.syntax.specs.Reading.{read_line}
 use Rattle.assembler.proofs.writing.Laws.{zeroed_size, zeroed_long, ready_by, found_by}
-use borrow.Author.Rules.{rules}
 use Rattle.assembler.proofs.writing.read_zeroed.Goals as goal
 
 pub returns-then-n-gt-LONGEST : goal.returns-then-n-gt-LONGEST

@@ -7,7 +7,6 @@ use Rattle.syntax.specs.Reading.{read_line}
 use Rattle.assembler.specs.Writing.{Worded}
 use Rattle.assembler.proofs.bytes.Laws.{part_line}
 use Rattle.assembler.proofs.writing.Laws.{ready_by, found_by, line_read, plain_found}
-use borrow.Author.Rules.{rules}
 use Rattle.assembler.proofs.writing.word_at.Goals as goal
 
 pub overflow_sub-end : goal.overflow_sub-end

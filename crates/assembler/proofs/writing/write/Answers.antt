@@ -1,6 +1,5 @@
 -- `assembler::writing::write` meets its contract. Assumes nothing.
 use Rattle.assembler.proofs.writing.Laws.{wrote_it, encoded_is, refused_is}
-use borrow.Author.Rules.{rules}
 use Rattle.assembler.proofs.writing.write.Goals as goal
 
 pub returns-in-Encoded : goal.returns-in-Encoded

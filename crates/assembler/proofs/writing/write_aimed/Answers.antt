@@ -1,6 +1,5 @@
 -- `assembler::writing::write_aimed` meets its contract. Assumes nothing.
 use Rattle.assembler.proofs.writing.Laws.{aimed_nowhere, aimed_somewhere}
-use borrow.Author.Rules.{rules}
 use Rattle.assembler.proofs.writing.write_aimed.Goals as goal
 
 pub returns-then-a-eq-NOWHERE : goal.returns-then-a-eq-NOWHERE

@@ -2,14 +2,13 @@
 use mathlib.Core.Path.{refl}
 use native.Mathlib.Omega.{arith}
 use Rattle.assembler.proofs.writing.Laws.{parsed_unread, parsed_found, operands_part, no_space, no_label, label_unread, label_found}
-use borrow.Author.Rules.{rules}
 use Rattle.assembler.proofs.writing.write_target.Goals as goal
 
 pub returns-then-line-name : goal.returns-then-line-name
 returns-then-line-name c = no_space c.args.c c.args.chains.now c.args.nexts.now c.args.keys.now c.args.places.now c.args.line.now c.args.labels _ _ c.requires.0.is_lawful c.requires.3 c.name_length-name.ensures.0 c.if-line-name.true c.refusal.ensures
 
 pub overflow_add-from : goal.overflow_add-from
-overflow_add-from c = omega (arith, c.if-line-name.false, c.well-formed)
+overflow_add-from c = omega (arith, c.if-line-name.false)
 
 pub slice_bounds-operands-count : goal.slice_bounds-operands-count
 slice_bounds-operands-count c = let h = c.if-line-name.false in omega arith

@@ -1,8 +1,6 @@
 -- `assembler::zeros::put_zeroed` meets its contract. Assumes nothing.
-use Prim.Native.Nat.{ℕ, ◌-◌, ◌<◌, ◌≤◌}
-use mathlib.Core.Path.{◌≡◌}
 use native.Mathlib.Omega.{arith}
-use lib.ListN.{length, get_or, length-set}
+use lib.ListN.{length-set}
 use Rattle.assembler.specs.Zeros.{zeroed}
 use Rattle.assembler.proofs.zeros.Laws.{written_more, written_all}
 use Rattle.assembler.proofs.zeros.put_zeroed.Goals as goal

@@ -1,6 +1,5 @@
 -- `assembler::zeros::zeroed_byte` meets its contract. Assumes nothing.
 use Rattle.assembler.proofs.zeros.Laws.{zeroed_before, zeroed_zero, zeroed_behind}
-use borrow.Author.Rules.{rules}
 use Rattle.assembler.proofs.zeros.zeroed_byte.Goals as goal
 
 pub returns-then-j-from : goal.returns-then-j-from

@@ -1,5 +1,5 @@
 -- `image::blocks::block_refusal` meets its contract. Assumes nothing.
-use Rattle.std.proofs.Common.{◌-◌, sym, ◌∙◌, arith, rules}
+use Rattle.std.proofs.Common.{sym, ◌∙◌, arith}
 use Rattle.image.proofs.blocks.Laws.{block_number, block_sum, block_right}
 use Rattle.image.proofs.blocks.block_refusal.Goals as goal
 

@@ -1,7 +1,5 @@
 -- `image::blocks::blocks_refusal` meets its contract. Assumes nothing.
-use Rattle.std.proofs.Common.{◌≡◌, ◌+◌, ◌-◌, ◌*◌, ◌≤◌, length, sym, ◌∙◌, arith, rules}
-use Rattle.laws.specs.First.{first_failing}
-use Rattle.image.specs.Loading.{blocks_tests}
+use Rattle.std.proofs.Common.{◌≡◌, sym, ◌∙◌, arith}
 use Rattle.image.proofs.blocks.Laws.{blocks_first, blocks_next, blocks_none}
 use Rattle.image.proofs.blocks.blocks_refusal.Goals as goal
 

@@ -1,8 +1,7 @@
 -- `image::blocks::blocks_refusal` meets its contract. Assumes nothing.
-use Rattle.std.proofs.Common.{◌≡◌, ◌+◌, ◌-◌, ◌*◌, ◌≤◌, length, sym, ◌∙◌, arith, rules}
+use Rattle.std.proofs.Common.{◌≡◌, ◌+◌, ◌*◌, ◌≤◌, length}
 use Rattle.laws.specs.First.{first_failing}
 use Rattle.image.specs.Loading.{blocks_tests}
-use Rattle.image.proofs.blocks.Laws.{blocks_first, blocks_next, blocks_none}
 use Rattle.image.proofs.blocks.blocks_refusal.Given as goal
 
 abbrev pub invariant-loop-left : goal.invariant-loop-left

@@ -1,6 +1,5 @@
 -- `image::blocks::checksum_at` meets its contract. Assumes nothing.
-use Rattle.std.proofs.Common.{◌≡◌, ◌+◌, ◌-◌, ◌%◌, ◌^◌, ◌<◌, ◌≤◌, sym, ◌∙◌, arith, rules}
-use Rattle.image.specs.File.{words_at, total, checksum}
+use Rattle.std.proofs.Common.{◌≡◌, sym, ◌∙◌, arith}
 use Rattle.image.proofs.blocks.Laws.{sum_start, sum_next, sum_end}
 use Rattle.image.proofs.blocks.checksum_at.Goals as goal
 
@@ -8,7 +7,7 @@ pub loop-i-init : goal.loop-i-init
 loop-i-init c = (omega arith, omega arith, sum_start _ _ 127)
 
 pub loop-i-preserved : goal.loop-i-preserved
-loop-i-preserved c = (omega arith, omega (arith, c.wrapping_add_u32-sum.ensures), rw (c.wrapping_add_u32-sum.ensures, c.word.ensures) (sum_next _ _ _ 127 _ (omega arith) ∙ c.loop-i.invariant.2))
+loop-i-preserved c = (omega arith, omega (arith, c.wrapping_add_u32-sum.ensures.value), rw (c.wrapping_add_u32-sum.ensures.value, c.word.ensures) (sum_next _ _ _ 127 _ (omega arith) ∙ c.loop-i.invariant.2))
 
 pub returns : goal.returns
 returns c = let e : c.loop-i.i ≡ 127 = omega arith in sym (sum_end _ _ 127 _ c.loop-i.invariant.1) ∙ (rw e at c.loop-i.invariant.2)

@@ -1,7 +1,6 @@
 -- `image::blocks::checksum_at` meets its contract. Assumes nothing.
-use Rattle.std.proofs.Common.{◌≡◌, ◌+◌, ◌-◌, ◌%◌, ◌^◌, ◌<◌, ◌≤◌, sym, ◌∙◌, arith, rules}
+use Rattle.std.proofs.Common.{◌≡◌, ◌+◌, ◌-◌, ◌%◌, ◌^◌, ◌<◌, ◌≤◌}
 use Rattle.image.specs.File.{words_at, total, checksum}
-use Rattle.image.proofs.blocks.Laws.{sum_start, sum_next, sum_end}
 use Rattle.image.proofs.blocks.checksum_at.Given as goal
 
 abbrev pub invariant-loop-i : goal.invariant-loop-i

@@ -1,5 +1,5 @@
 -- `image::blocks::word` meets its contract. Assumes nothing.
-use Rattle.std.proofs.Common.{arith, rules}
+use Rattle.std.proofs.Common.{arith}
 use Rattle.image.specs.File.{word_at}
 use Rattle.image.proofs.blocks.word.Goals as goal
 

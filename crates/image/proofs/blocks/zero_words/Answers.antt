@@ -1,8 +1,5 @@
 -- `image::blocks::zero_words` meets its contract. Assumes nothing.
-use Rattle.std.proofs.Common.{◌≡◌, ◌+◌, ◌-◌, ◌*◌, ◌≤◌, length, sym, ◌∙◌, arith, rules}
-use Rattle.laws.specs.Test.{test}
-use Rattle.image.specs.File.{words_at}
-use Rattle.image.specs.Loading.{zeros}
+use Rattle.std.proofs.Common.{◌≡◌, sym, ◌∙◌, arith}
 use Rattle.image.proofs.blocks.Laws.{not_zero, zero_next, zero_none}
 use Rattle.image.proofs.blocks.zero_words.Goals as goal
 

@@ -1,5 +1,4 @@
 -- `image::loading::config_of` meets its contract. Assumes nothing.
-use Rattle.std.proofs.Common.{rules}
 use Rattle.image.proofs.loading.config_of.Goals as goal
 
 pub returns : goal.returns

@@ -1,7 +1,6 @@
 -- `image::loading::copy_image` meets its contract. Assumes nothing.
-use Rattle.std.proofs.Common.{◌≡◌, ◌+◌, ◌-◌, ◌*◌, ◌≤◌, length, sym, refl, ap, ◌∙◌, arith, rules}
-use lib.Seq.{sets, length-sets}
-use Rattle.image.specs.File.{image_words}
+use Rattle.std.proofs.Common.{length, sym, refl, ap, ◌∙◌, arith}
+use lib.Seq.{length-sets}
 use Rattle.image.proofs.loading.Laws.{block_next, blocks_start, blocks_end}
 use Rattle.image.proofs.loading.copy_image.Goals as goal
 

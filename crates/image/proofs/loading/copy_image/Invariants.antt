@@ -1,8 +1,7 @@
 -- `image::loading::copy_image` meets its contract. Assumes nothing.
-use Rattle.std.proofs.Common.{◌≡◌, ◌+◌, ◌-◌, ◌*◌, ◌≤◌, length, sym, refl, ap, ◌∙◌, arith, rules}
-use lib.Seq.{sets, length-sets}
+use Rattle.std.proofs.Common.{◌≡◌, ◌+◌, ◌-◌, ◌*◌, ◌≤◌, length}
+use lib.Seq.{sets}
 use Rattle.image.specs.File.{image_words}
-use Rattle.image.proofs.loading.Laws.{block_next, blocks_start, blocks_end}
 use Rattle.image.proofs.loading.copy_image.Given as goal
 
 abbrev pub invariant-loop-b : goal.invariant-loop-b

@@ -1,7 +1,5 @@
 -- `image::loading::copy_words` meets its contract. Assumes nothing.
-use Rattle.std.proofs.Common.{◌≡◌, ◌+◌, ◌-◌, ◌≤◌, length, sym, refl, ◌∙◌, arith, length-set, rules}
-use lib.Seq.{sets}
-use Rattle.image.specs.File.{words_at}
+use Rattle.std.proofs.Common.{◌≡◌, sym, refl, ◌∙◌, arith, length-set}
 use Rattle.image.proofs.loading.Laws.{copy_start, copy_next, copy_end}
 use Rattle.image.proofs.loading.copy_words.Goals as goal
 

@@ -1,8 +1,7 @@
 -- `image::loading::copy_words` meets its contract. Assumes nothing.
-use Rattle.std.proofs.Common.{◌≡◌, ◌+◌, ◌-◌, ◌≤◌, length, sym, refl, ◌∙◌, arith, length-set, rules}
+use Rattle.std.proofs.Common.{◌≡◌, ◌+◌, ◌-◌, ◌≤◌, length}
 use lib.Seq.{sets}
 use Rattle.image.specs.File.{words_at}
-use Rattle.image.proofs.loading.Laws.{copy_start, copy_next, copy_end}
 use Rattle.image.proofs.loading.copy_words.Given as goal
 
 abbrev pub invariant-loop-i : goal.invariant-loop-i

@@ -1,5 +1,5 @@
 -- `image::loading::load` meets its contract. Assumes nothing.
-use Rattle.std.proofs.Common.{◌≡◌, ◌-◌, length, sym, ap, ◌∙◌, arith, rules}
+use Rattle.std.proofs.Common.{◌≡◌, length, sym, ap, ◌∙◌, arith}
 use Rattle.laws.specs.First.{first_failing}
 use Rattle.image.specs.File.{word_at}
 use Rattle.image.specs.Loading.{head_tests, rest_tests}

@@ -1,6 +1,6 @@
 -- `image::loading::rest_refusal` meets its contract. Assumes nothing.
-use Rattle.std.proofs.Common.{◌≡◌, ◌-◌, ◌≤◌, length, sym, ◌∙◌, arith, rules, eq-eqb, ne_eqb, le-leb}
-use borrow.Author.Tests.{not-true, not-false, lt-leb}
+use Rattle.std.proofs.Common.{◌≡◌, ◌≤◌, length, sym, ◌∙◌, arith, eq-eqb, ne_eqb, le-leb}
+use borrow.Author.Tests.{lt-leb}
 use Rattle.laws.specs.Choice.{pick}
 use Rattle.laws.specs.First.{first_failing}
 use Rattle.image.specs.File.{blocks_for, file_size}
@@ -22,8 +22,8 @@ returns-then-bad-ne0 c = let l : length c.args.file.now ≡ file_size c.args.n =
 
 pub returns-then-not-zero_words : goal.returns-then-not-zero_words
 unfolding pick
-returns-then-not-zero_words c = let l : length c.args.file.now ≡ file_size c.args.n = omega (arith, c.blocks_for-blocks.ensures) in let h : c.args.n ≤ c.args.len = omega arith in let b : first_failing (blocks_tests c.args.file.now 1 (blocks_for c.args.n)) ≡ 0 = sym (rw c.blocks_for-blocks.ensures at c.blocks_refusal-bad.ensures) ∙ omega arith in let z = zero_filling c.args.file.now c.args.n _ _ c.requires.0 c.blocks_for-blocks.ensures c.zero_words.ensures in rw (rest_is, eq-eqb _ _ l, le-leb _ _ h, b, sym z ∙ not-true c.zero_words.result c.if-not-zero_words.true-raw)
+returns-then-not-zero_words c = let l : length c.args.file.now ≡ file_size c.args.n = omega (arith, c.blocks_for-blocks.ensures) in let h : c.args.n ≤ c.args.len = omega arith in let b : first_failing (blocks_tests c.args.file.now 1 (blocks_for c.args.n)) ≡ 0 = sym (rw c.blocks_for-blocks.ensures at c.blocks_refusal-bad.ensures) ∙ omega arith in let z = zero_filling c.args.file.now c.args.n _ _ c.requires.0 c.blocks_for-blocks.ensures c.zero_words.ensures in rw (rest_is, eq-eqb _ _ l, le-leb _ _ h, b, sym z ∙ c.if-not-zero_words.true)
 
 pub returns : goal.returns
 unfolding pick
-returns c = let l : length c.args.file.now ≡ file_size c.args.n = omega (arith, c.blocks_for-blocks.ensures) in let h : c.args.n ≤ c.args.len = omega arith in let b : first_failing (blocks_tests c.args.file.now 1 (blocks_for c.args.n)) ≡ 0 = sym (rw c.blocks_for-blocks.ensures at c.blocks_refusal-bad.ensures) ∙ omega arith in let z = zero_filling c.args.file.now c.args.n _ _ c.requires.0 c.blocks_for-blocks.ensures c.zero_words.ensures in rw (rest_is, eq-eqb _ _ l, le-leb _ _ h, b, sym z ∙ not-false c.zero_words.result c.if-not-zero_words.false-raw)
+returns c = let l : length c.args.file.now ≡ file_size c.args.n = omega (arith, c.blocks_for-blocks.ensures) in let h : c.args.n ≤ c.args.len = omega arith in let b : first_failing (blocks_tests c.args.file.now 1 (blocks_for c.args.n)) ≡ 0 = sym (rw c.blocks_for-blocks.ensures at c.blocks_refusal-bad.ensures) ∙ omega arith in let z = zero_filling c.args.file.now c.args.n _ _ c.requires.0 c.blocks_for-blocks.ensures c.zero_words.ensures in rw (rest_is, eq-eqb _ _ l, le-leb _ _ h, b, sym z ∙ c.if-not-zero_words.false)

@@ -1,6 +1,5 @@
 -- `image::storing::put_file` meets its contract. Assumes nothing.
 use Rattle.image.proofs.storing.Laws.{file_put}
-use Rattle.std.proofs.Common.{rules}
 use Rattle.image.proofs.storing.put_file.Goals as goal
 
 pub returns : goal.returns

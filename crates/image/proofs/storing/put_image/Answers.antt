@@ -1,7 +1,6 @@
 -- `image::storing::put_image` meets its contract. Assumes nothing.
-use Rattle.std.proofs.Common.{◌≡◌, ◌+◌, ◌-◌, ◌*◌, ◌≤◌, length, sym, refl, ap, ◌∙◌, arith, rules}
-use lib.Seq.{sets, length-sets}
-use Rattle.image.specs.Storing.{bytes_of, blocks_of}
+use Rattle.std.proofs.Common.{◌≡◌, length, sym, refl, ap, ◌∙◌, arith}
+use lib.Seq.{length-sets}
 use Rattle.image.proofs.storing.Laws.{image_start, image_next, image_end}
 use Rattle.image.proofs.storing.put_image.Goals as goal
 

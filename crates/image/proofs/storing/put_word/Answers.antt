@@ -1,6 +1,6 @@
 -- `image::storing::put_word` meets its contract. Assumes nothing.
 -- `image::storing::put_word` meets its contract. Assumes nothing.
-use Rattle.std.proofs.Common.{◌*◌, ◌/◌, ◌%◌, arith, length-set, rules}
+use Rattle.std.proofs.Common.{◌*◌, ◌/◌, ◌%◌, arith, length-set}
 use Rattle.image.specs.Storing.{bytes_of}
 use Rattle.image.proofs.storing.Laws.{put_four}
 use Rattle.image.proofs.storing.put_word.Goals as goal

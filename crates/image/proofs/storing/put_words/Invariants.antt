@@ -1,10 +1,8 @@
 -- `image::storing::put_words` meets its contract. Assumes nothing.
-use Rattle.std.proofs.Common.{◌≡◌, ◌+◌, ◌-◌, ◌*◌, ◌%◌, ◌^◌, ◌<◌, ◌≤◌, length, sym, refl, ap, ◌∙◌, arith, rules}
-use lib.Seq.{sets, length-sets}
+use Rattle.std.proofs.Common.{◌≡◌, ◌+◌, ◌-◌, ◌*◌, ◌%◌, ◌^◌, ◌<◌, ◌≤◌, length}
+use lib.Seq.{sets}
 use Rattle.image.specs.File.{total}
 use Rattle.image.specs.Storing.{bytes_of, filled}
-use Rattle.image.proofs.storing.Laws.{put_start, put_next, put_end}
-use Rattle.image.proofs.blocks.Laws.{sum_from, sum_next, sum_end}
 use Rattle.image.proofs.storing.put_words.Given as goal
 
 abbrev pub invariant-loop-i : goal.invariant-loop-i

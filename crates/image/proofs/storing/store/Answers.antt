@@ -1,5 +1,5 @@
 -- `image::storing::store` meets its contract. Assumes nothing.
-use Rattle.std.proofs.Common.{◌≡◌, ◌-◌, length, sym, ◌∙◌, arith, rules}
+use Rattle.std.proofs.Common.{◌≡◌, length, sym, ◌∙◌, arith}
 use Rattle.laws.specs.First.{first_failing}
 use Rattle.image.specs.Storing.{store_tests}
 use Rattle.image.proofs.storing.Laws.{store_passed}

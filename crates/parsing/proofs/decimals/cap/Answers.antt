@@ -1,6 +1,4 @@
 -- `parsing::decimals::cap` meets its contract. Assumes nothing.
-use borrow.Author.Rules.{rules}
-use native.Mathlib.Omega.{arith}
 use Rattle.parsing.proofs.decimals.Laws.{cap_low, cap_high}
 use Rattle.parsing.proofs.decimals.cap.Goals as goal
 

@@ -1,11 +1,8 @@
 -- `parsing::decimals::decimal_of` meets its contract. Assumes nothing.
-use borrow.Author.Rules.{rules}
-use native.Mathlib.Omega.{arith}
 use Prim.Native.Nat.{◌-◌, ◌≤◌}
 use mathlib.Core.Path.{◌≡◌}
-use lib.ListN.{length, get_or, drop}
+use lib.ListN.{length, drop}
 use Rattle.parsing.specs.Decimals.{decimal_from, decimal_of, limit, answered}
-use Rattle.parsing.proofs.decimals.Laws.{is_one, digit_range, cap_most, empty_none, starts, breaks, goes_on, done}
 use Rattle.parsing.proofs.decimals.decimal_of.Given as goal
 
 abbrev pub invariant-loop-i : goal.invariant-loop-i

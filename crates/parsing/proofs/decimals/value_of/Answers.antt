@@ -1,7 +1,5 @@
 -- `parsing::decimals::value_of` meets its contract. Assumes nothing.
-use native.Mathlib.Omega.{arith}
 use Rattle.parsing.proofs.decimals.Laws.{too_many, too_high, taken}
-use borrow.Author.Rules.{rules}
 use Rattle.parsing.proofs.decimals.value_of.Goals as goal
 
 pub returns-then-text-gt-MOST_DIGITS : goal.returns-then-text-gt-MOST_DIGITS

@@ -1,6 +1,4 @@
 -- `parsing::entries::is_of` meets its contract. Assumes nothing.
-use native.Mathlib.Omega.{arith}
-use borrow.Author.Rules.{rules}
 use Rattle.parsing.proofs.entries.is_of.Goals as goal
 
 pub returns-in-Blank : goal.returns-in-Blank

@@ -1,8 +1,6 @@
 -- `parsing::entries::next_entry` meets its contract. Assumes nothing.
-use native.Mathlib.Omega.{arith}
 use Rattle.parsing.proofs.entries.Laws.{next}
 use mathlib.Core.Path.{refl}
-use borrow.Author.Rules.{rules}
 use Rattle.parsing.proofs.entries.next_entry.Goals as goal
 
 pub returns : goal.returns

@@ -1,11 +1,8 @@
 -- `parsing::entries::run` meets its contract. Assumes nothing.
-use borrow.Author.Rules.{rules}
-use native.Mathlib.Omega.{arith}
 use Prim.Native.Nat.{◌+◌, ◌-◌, ◌≤◌}
 use mathlib.Core.Path.{◌≡◌}
 use lib.ListN.{length, drop}
 use Rattle.parsing.specs.Entries.{run_of}
-use Rattle.parsing.proofs.entries.Laws.{run_more, run_ends, run_all}
 use Rattle.parsing.proofs.entries.run.Given as goal
 
 abbrev pub invariant-loop-j : goal.invariant-loop-j

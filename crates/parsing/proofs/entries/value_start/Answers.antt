@@ -1,7 +1,6 @@
 -- `parsing::entries::value_start` meets its contract. Assumes nothing.
 use native.Mathlib.Omega.{arith}
 use Rattle.parsing.proofs.entries.Laws.{value_inside, value_past}
-use borrow.Author.Rules.{rules}
 use Rattle.parsing.proofs.entries.value_start.Goals as goal
 
 pub returns-then-n-e : goal.returns-then-n-e

@@ -1,9 +1,7 @@
 -- `parsing::hex::hex_value` meets its contract. Assumes nothing.
-use native.Mathlib.Omega.{arith}
 use Rattle.parsing.proofs.hex.Laws.{capital, small, value_digit, value_capital, value_small, value_none}
 use Rattle.parsing.proofs.decimals.Laws.{digit_range}
 use mathlib.Core.Path.{sym, ◌∙◌}
-use borrow.Author.Rules.{rules}
 use Rattle.parsing.proofs.hex.hex_value.Goals as goal
 
 pub overflow_sub-result : goal.overflow_sub-result

@@ -1,9 +1,7 @@
 -- `parsing::hex::hex_words` meets its contract. Assumes nothing.
-use native.Mathlib.Omega.{arith}
 use Rattle.parsing.proofs.hex.Laws.{refuses, takes}
 use Rattle.parsing.proofs.FromOne.{line_from_one}
 use Rattle.parsing.proofs.RoundTrip.{printed_words}
-use borrow.Author.Rules.{rules}
 use Rattle.parsing.proofs.hex.hex_words.Goals as goal
 
 pub returns-then-first-ne0 : goal.returns-then-first-ne0

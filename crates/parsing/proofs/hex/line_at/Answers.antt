@@ -1,10 +1,7 @@
 -- `parsing::hex::line_at` meets its contract. Assumes nothing.
-use borrow.Author.Rules.{rules}
 use native.Mathlib.Omega.{arith}
-use Prim.Native.Nat.{◌-◌, ◌≤◌}
-use mathlib.Core.Path.{◌≡◌}
-use lib.ListN.{length}
-use Rattle.parsing.proofs.hex.Laws.{fits, goes, Within, within_none, within_more, line_ends, line_breaks, last_line}
+use Prim.Native.Nat.{◌-◌}
+use Rattle.parsing.proofs.hex.Laws.{fits, goes, within_none, within_more, line_ends, line_breaks, last_line}
 use Rattle.parsing.proofs.hex.line_at.Goals as goal
 
 pub loop-j-init : goal.loop-j-init

@@ -1,8 +1,6 @@
 -- `parsing::hex::put_word` meets its contract. Assumes nothing.
-use native.Mathlib.Omega.{arith}
 use mathlib.Core.Path.{sym}
 use lib.Seq.{set_out}
-use borrow.Author.Rules.{rules}
 use Rattle.parsing.proofs.hex.put_word.Goals as goal
 
 pub returns-else-i-words : goal.returns-else-i-words

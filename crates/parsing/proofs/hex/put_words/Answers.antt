@@ -1,13 +1,10 @@
 -- `parsing::hex::put_words` meets its contract. Assumes nothing.
-use borrow.Author.Rules.{rules}
 use native.Mathlib.Omega.{arith}
-use Prim.Native.Nat.{◌-◌, ◌≤◌}
-use mathlib.Core.Path.{◌≡◌}
 use lib.ListN.{length}
-use mathlib.Core.Path.{◌≡◌, ap, ◌∙◌}
+use mathlib.Core.Path.{ap, ◌∙◌}
 use lib.ListN.{length-set}
 use borrow.Author.Tests.{not-false}
-use Rattle.parsing.proofs.hex.Laws.{Passed, passed_none, passed_more, passed_bad, passed_all}
+use Rattle.parsing.proofs.hex.Laws.{passed_none, passed_more, passed_bad, passed_all}
 use Rattle.parsing.proofs.hex.put_words.Goals as goal
 
 pub loop-i-init : goal.loop-i-init

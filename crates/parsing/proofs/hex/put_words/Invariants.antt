@@ -1,13 +1,9 @@
 -- `parsing::hex::put_words` meets its contract. Assumes nothing.
-use borrow.Author.Rules.{rules}
-use native.Mathlib.Omega.{arith}
-use Prim.Native.Nat.{◌-◌, ◌≤◌}
+use Prim.Native.Nat.{◌-◌}
 use mathlib.Core.Path.{◌≡◌}
 use lib.ListN.{length}
-use mathlib.Core.Path.{◌≡◌, ap, ◌∙◌}
-use lib.ListN.{length-set}
-use borrow.Author.Tests.{not-false}
-use Rattle.parsing.proofs.hex.Laws.{Passed, passed_none, passed_more, passed_bad, passed_all}
+use mathlib.Core.Path.{◌≡◌}
+use Rattle.parsing.proofs.hex.Laws.{Passed}
 use Rattle.parsing.proofs.hex.put_words.Given as goal
 
 abbrev pub invariant-loop-i : goal.invariant-loop-i

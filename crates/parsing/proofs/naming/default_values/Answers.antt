@@ -1,6 +1,4 @@
 -- `parsing::naming::default_values` meets its contract. Assumes nothing.
-use borrow.Author.Rules.{rules}
-use native.Mathlib.Omega.{arith}
 use mathlib.Core.Path.{refl}
 use Rattle.parsing.specs.Generics.{generics, defaults}
 use Rattle.parsing.proofs.naming.default_values.Goals as goal

@@ -1,9 +1,7 @@
 -- `parsing::naming::gather_values` meets its contract. Assumes nothing.
-use borrow.Author.Rules.{rules}
-use native.Mathlib.Omega.{arith}
 use Prim.Native.Nat.{◌-◌}
 use lib.ListN.{length}
-use Rattle.parsing.proofs.naming.Laws.{Gathering, gathering_none, all_read, none_left, entry_past, entry_again, entry_first}
+use Rattle.parsing.proofs.naming.Laws.{Gathering}
 use Rattle.parsing.proofs.naming.gather_values.Given as goal
 
 abbrev pub invariant-loop-i : goal.invariant-loop-i

@@ -1,9 +1,7 @@
 -- `parsing::naming::generics_of` meets its contract. Assumes nothing.
-use native.Mathlib.Omega.{arith}
 use mathlib.Core.Path.{refl}
 use Rattle.parsing.proofs.FromOne.{entry_from_one}
 use Rattle.parsing.proofs.naming.Laws.{answers_none, answers_all}
-use borrow.Author.Rules.{rules}
 use Rattle.parsing.proofs.naming.generics_of.Goals as goal
 
 pub returns-then-entry-ne0 : goal.returns-then-entry-ne0

@@ -3,8 +3,6 @@ use native.Mathlib.Omega.{arith}
 use Rattle.parsing.proofs.naming.Laws.{at_name}
 use mathlib.Core.Path.{refl}
 use Rattle.parsing.specs.Generics.{generics, names}
-use Rattle.laws.specs.Table.{excluded}
-use borrow.Author.Rules.{rules}
 use Rattle.parsing.proofs.naming.is_name.Goals as goal
 
 pub returns-in-0 : goal.returns-in-0
@@ -81,4 +79,4 @@ returns-in-17 c = at_name _ 17 _ _ _ c.in-17.is refl c.same-in-17.ensures
 
 pub returns-in_default : goal.returns-in_default
 unfolding names generics
-returns-in_default c = let x = excluded _ 18 c.in_default.in_default-own.rest in let p = c.requires in at_name c.args.k 18 _ _ _ (omega arith) refl c.same-in_default.ensures
+returns-in_default c = at_name c.args.k 18 _ _ _ (omega arith) refl c.same-in_default.ensures

@@ -1,11 +1,6 @@
 -- `parsing::naming::place_of` meets its contract. Assumes nothing.
-use borrow.Author.Rules.{rules}
 use native.Mathlib.Omega.{arith}
-use Prim.Native.Nat.{◌+◌, ◌-◌, ◌≤◌}
-use mathlib.Core.Path.{◌≡◌}
 use native.Mathlib.Nat.{zero-add}
-use lib.ListN.{drop}
-use Rattle.parsing.specs.Generics.{names, place_of}
 use Rattle.parsing.proofs.naming.Laws.{place_found, place_next, place_none}
 use Rattle.parsing.proofs.naming.place_of.Goals as goal
 

@@ -1,9 +1,7 @@
 -- `parsing::naming::read_entry` meets its contract. Assumes nothing.
-use native.Mathlib.Omega.{arith}
 use mathlib.Core.Path.{sym}
 use lib.Seq.{length-take-le}
 use Rattle.parsing.proofs.naming.Laws.{entry_gives, entry_none}
-use borrow.Author.Rules.{rules}
 use Rattle.parsing.proofs.naming.read_entry.Goals as goal
 
 pub slice_bounds-place_of-end : goal.slice_bounds-place_of-end

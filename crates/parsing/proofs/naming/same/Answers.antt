@@ -1,10 +1,6 @@
 -- `parsing::naming::same` meets its contract. Assumes nothing.
-use borrow.Author.Rules.{rules}
 use native.Mathlib.Omega.{arith}
-use Prim.Native.Nat.{◌+◌, ◌-◌, ◌≤◌}
-use mathlib.Core.Path.{◌≡◌, refl}
-use lib.ListN.{length, drop}
-use Rattle.syntax.specs.Pieces.{equal}
+use mathlib.Core.Path.{refl}
 use Rattle.parsing.proofs.naming.Laws.{other_length, differ, agree, equal_all}
 use Rattle.parsing.proofs.naming.same.Goals as goal
 

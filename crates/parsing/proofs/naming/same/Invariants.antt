@@ -1,11 +1,8 @@
 -- `parsing::naming::same` meets its contract. Assumes nothing.
-use borrow.Author.Rules.{rules}
-use native.Mathlib.Omega.{arith}
-use Prim.Native.Nat.{◌+◌, ◌-◌, ◌≤◌}
-use mathlib.Core.Path.{◌≡◌, refl}
+use Prim.Native.Nat.{◌-◌, ◌≤◌}
+use mathlib.Core.Path.{◌≡◌}
 use lib.ListN.{length, drop}
 use Rattle.syntax.specs.Pieces.{equal}
-use Rattle.parsing.proofs.naming.Laws.{other_length, differ, agree, equal_all}
 use Rattle.parsing.proofs.naming.same.Given as goal
 
 abbrev pub invariant-loop-i : goal.invariant-loop-i
