@@ -6,7 +6,7 @@ use Prim.Native.Nat.{ℕ, ◌+◌, ◌≤◌}
 use native.Mathlib.Omega.{arith}
 use borrow.Author.Tests.{eq-eqb, ne_eqb}
 use lib.Dec.{eqb}
-use lib.ListN.{length, get_or, set, take, drop, replicate, length-append, length-drop, take-append-drop}
+use lib.ListN.{length, set, take, drop, replicate, length-append, length-drop, take-append-drop}
 use lib.Seq.{take_all, length-take-le, drop-drop, drop_at, drop-cons, set_at, sets-eq}
 use Rattle.laws.specs.Choice.{pick, pick_yes, true_is}
 use Rattle.laws.specs.Test.{test, Holds, holds, tests, Below}

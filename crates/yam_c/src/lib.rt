@@ -157,7 +157,8 @@ pub extern "C" fn yam_step(
     values: &mut [u32],
     answers: &mut [u64],
 ) -> u32
-    ensures { (moved result machine.new registers.new memory.new addresses.new values.new answers.new ≡ step_call config.now image.now inputs.now machine.old registers.old memory.old addresses.old values.old answers.old) × StepHandsOn × ComesBackLists × DoubleStepsLists }
+    ensures answer { (moved result machine.new registers.new memory.new addresses.new values.new answers.new ≡ step_call config.now image.now inputs.now machine.old registers.old memory.old addresses.old values.old answers.old) × StepHandsOn × ComesBackLists }
+    ensures double_steps { DoubleStepsLists }
 {
     let c = config_from(config);
     if machine_shaped(machine) {

@@ -1,6 +1,5 @@
 -- `yam_c::check_into` meets its contract. Assumes nothing.
 use Rattle.yam_c.proofs.Calls.{check_passed, check_unlawful, check_misfit, check_broken}
-use borrow.Author.Rules.{rules}
 use Rattle.yam_c.proofs.check_into.Goals as goal
 
 pub returns-in-Passed : goal.returns-in-Passed

@@ -1,6 +1,5 @@
 -- `yam_c::read_into` meets its contract. Assumes nothing.
 use Rattle.yam_c.proofs.Words.{read_refused, read_misfit, read_word}
-use borrow.Author.Rules.{rules}
 use Rattle.yam_c.proofs.read_into.Goals as goal
 
 pub returns-then-instruction-ne-INSTRUCTION_WORDS : goal.returns-then-instruction-ne-INSTRUCTION_WORDS

@@ -3,12 +3,7 @@ use mathlib.Core.Path.{refl, ◌∙◌}
 use Rattle.state.specs.State.{env}
 use Rattle.yam_c.proofs.Machines.{stack_length}
 use Rattle.yam_c.proofs.Calls.{step_placed}
-use borrow.Author.Rules.{rules}
-use Rattle.machine.proofs.step_lent.Reads as step-lent-reads
-use Rattle.yam_c.proofs.flat.answer.Reads as answer-reads
-use Rattle.yam_c.proofs.flat.core_in.Reads as core-in-reads
-use Rattle.yam_c.proofs.flat.update.Reads as update-reads
 use Rattle.yam_c.proofs.step_in_place.Goals as goal
 
 pub returns : goal.returns
-returns c = step_placed (env c.args.c c.args.image.now c.args.inputs.now) c.args.machine.now c.args.registers.now c.args.memory.now c.args.addresses.now c.args.values.now c.requires _ c.core_in-m.ensures _ _ c.args.answers.now _ _ c.step_lent-r.ensures (c.step_lent-r.auto.1.1.1.1.0 ∙ stack_length c.args.machine.now c.requires) refl c.update.ensures c.answer.ensures
+returns c = step_placed (env c.args.c c.args.image.now c.args.inputs.now) c.args.machine.now c.args.registers.now c.args.memory.now c.args.addresses.now c.args.values.now c.requires _ c.core_in-m.ensures _ _ c.args.answers.now _ _ c.step_lent-r.ensures (c.step_lent-r.auto.stack ∙ stack_length c.args.machine.now c.requires) refl c.update.ensures c.answer.ensures

@@ -1,7 +1,6 @@
 -- `yam_c::write_into` meets its contract. Assumes nothing.
 -- `yam_c::write_into` meets its contract. Assumes nothing.
 use Rattle.yam_c.proofs.Words.{write_refused, written_word}
-use borrow.Author.Rules.{rules}
 use Rattle.yam_c.proofs.write_into.Goals as goal
 
 pub returns-in-Refused : goal.returns-in-Refused

@@ -1,6 +1,5 @@
 -- `yam_c::yam_assemble` meets its contract. Assumes nothing.
 use Rattle.yam_c.proofs.Calls.{assemble_done}
-use borrow.Author.Rules.{rules}
 use Rattle.yam_c.proofs.yam_assemble.Goals as goal
 
 pub returns : goal.returns

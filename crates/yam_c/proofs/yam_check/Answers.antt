@@ -1,7 +1,6 @@
 -- `yam_c::yam_check` meets its contract. Assumes nothing.
 use Rattle.yam_c.proofs.Demand.{demand_3_lists}
 use mathlib.Core.Path.{◌∙◌}
-use borrow.Author.Rules.{rules}
 use Rattle.yam_c.proofs.yam_check.Goals as goal
 
 pub returns : goal.returns

@@ -1,6 +1,5 @@
 -- `yam_c::yam_list` meets its contract. Assumes nothing.
 use Rattle.yam_c.proofs.Calls.{list_done}
-use borrow.Author.Rules.{rules}
 use Rattle.yam_c.proofs.yam_list.Goals as goal
 
 pub returns : goal.returns

@@ -1,7 +1,6 @@
 -- `yam_c::yam_load` meets its contract. Assumes nothing.
 use Rattle.yam_c.proofs.Back.{config_back}
 use Rattle.yam_c.proofs.Calls.{load_misfit, load_refused, load_passed}
-use borrow.Author.Rules.{rules}
 use Rattle.yam_c.proofs.yam_load.Goals as goal
 
 pub returns-then-config-ne-CONFIG_WORDS : goal.returns-then-config-ne-CONFIG_WORDS

@@ -1,7 +1,6 @@
 -- `yam_c::yam_read` meets its contract. Assumes nothing.
 use Rattle.yam_c.proofs.Back.{instruction_back}
 use mathlib.Core.Path.{◌∙◌}
-use borrow.Author.Rules.{rules}
 use Rattle.yam_c.proofs.yam_read.Goals as goal
 
 pub returns : goal.returns

@@ -3,7 +3,6 @@ use Rattle.laws.specs.Choice.{pick}
 use Rattle.yam_c.proofs.Back.{machine_back}
 use borrow.Author.Tests.{eq-eqb, ne_eqb}
 use Rattle.yam_c.specs.Calls.{reset_call}
-use borrow.Author.Rules.{rules}
 use Rattle.yam_c.proofs.yam_reset.Goals as goal
 
 pub returns-then-machine-ne-MACHINE_WORDS : goal.returns-then-machine-ne-MACHINE_WORDS

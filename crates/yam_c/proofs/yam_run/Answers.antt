@@ -3,12 +3,6 @@ use Rattle.yam_c.proofs.HandsOn.{run_hands_on}
 use Rattle.yam_c.proofs.ComesBack.{comes_back_lists}
 use Rattle.yam_c.proofs.Machines.{shaped_holds, machine_out}
 use Rattle.yam_c.proofs.Calls.{run_misshapen}
-use borrow.Author.Rules.{rules}
-use Rattle.yam_c.proofs.flat.answer_two.Reads as answer-two-reads
-use Rattle.yam_c.proofs.flat.config_from.Reads as config-from-reads
-use Rattle.yam_c.proofs.flat.machine_shaped.Reads as machine-shaped-reads
-use Rattle.yam_c.proofs.flat.misshapen.Reads as misshapen-reads
-use Rattle.yam_c.proofs.run_in_place.Reads as run-in-place-reads
 use Rattle.yam_c.proofs.yam_run.Goals as goal
 
 pub run_in_place-requires : goal.run_in_place-requires

@@ -1,7 +1,6 @@
 -- `yam_c::yam_store` meets its contract. Assumes nothing.
 use mathlib.Core.Path.{ap}
 use Rattle.yam_c.specs.Calls.{store_left}
-use borrow.Author.Rules.{rules}
 use Rattle.yam_c.proofs.yam_store.Goals as goal
 
 pub returns : goal.returns

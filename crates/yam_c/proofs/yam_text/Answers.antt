@@ -1,6 +1,5 @@
 -- `yam_c::yam_text` meets its contract. Assumes nothing.
 use Rattle.yam_c.proofs.Calls.{text_done}
-use borrow.Author.Rules.{rules}
 use Rattle.yam_c.proofs.yam_text.Goals as goal
 
 pub returns : goal.returns

@@ -1,6 +1,5 @@
 -- `yam_c::yam_write` meets its contract. Assumes nothing.
 use mathlib.Core.Path.{◌∙◌}
-use borrow.Author.Rules.{rules}
 use Rattle.yam_c.proofs.yam_write.Goals as goal
 
 pub returns : goal.returns

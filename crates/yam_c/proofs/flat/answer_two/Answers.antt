@@ -1,6 +1,5 @@
 -- `yam_c::flat::answer_two` meets its contract. Assumes nothing.
 use Rattle.yam_c.specs.Flat.{stored}
-use borrow.Author.Rules.{rules}
 use Rattle.yam_c.proofs.flat.answer_two.Goals as goal
 
 pub returns : goal.returns

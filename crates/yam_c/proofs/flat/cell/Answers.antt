@@ -2,7 +2,6 @@
 use mathlib.Core.Path.{sym}
 use native.Mathlib.Omega.{arith}
 use lib.ListN.{get_or-eq_default}
-use borrow.Author.Rules.{rules}
 use Rattle.yam_c.proofs.flat.cell.Goals as goal
 
 pub returns-else-i-flat : goal.returns-else-i-flat

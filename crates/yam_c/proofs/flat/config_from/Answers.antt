@@ -2,7 +2,6 @@
 use Rattle.laws.specs.Choice.{pick}
 use borrow.Author.Tests.{eq-eqb, ne_eqb}
 use Rattle.yam_c.specs.Flat.{config_of}
-use borrow.Author.Rules.{rules}
 use Rattle.yam_c.proofs.flat.config_from.Goals as goal
 
 pub returns-then-flat-eq-CONFIG_WORDS : goal.returns-then-flat-eq-CONFIG_WORDS

@@ -1,6 +1,5 @@
 -- `yam_c::flat::core_in` meets its contract. Assumes nothing.
 use native.Mathlib.Omega.{arith}
-use borrow.Author.Rules.{rules}
 use Rattle.yam_c.proofs.flat.core_in.Goals as goal
 
 pub word-requires : goal.word-requires

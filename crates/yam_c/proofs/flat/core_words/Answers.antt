@@ -1,5 +1,4 @@
 -- `yam_c::flat::core_words` meets its contract. Assumes nothing.
-use borrow.Author.Rules.{rules}
 use Rattle.yam_c.proofs.flat.core_words.Goals as goal
 
 pub returns : goal.returns

@@ -2,7 +2,6 @@
 use Rattle.laws.specs.Choice.{pick}
 use borrow.Author.Tests.{eq-eqb, ne_eqb}
 use Rattle.yam_c.specs.Flat.{instruction_of}
-use borrow.Author.Rules.{rules}
 use Rattle.yam_c.proofs.flat.instruction_from.Goals as goal
 
 pub returns-then-flat-eq-INSTRUCTION_WORDS : goal.returns-then-flat-eq-INSTRUCTION_WORDS

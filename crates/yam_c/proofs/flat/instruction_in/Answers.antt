@@ -1,5 +1,4 @@
 -- `yam_c::flat::instruction_in` meets its contract. Assumes nothing.
-use borrow.Author.Rules.{rules}
 use Rattle.yam_c.proofs.flat.instruction_in.Goals as goal
 
 pub returns : goal.returns

@@ -8,7 +8,7 @@ use borrow.Author.Rules.{rules}
 use Rattle.yam_c.proofs.flat.machine_into.Goals as goal
 
 pub store-requires-2 : goal.store-requires-2
-store-requires-2 c = let g = c.well-formed.0 in let h : length c.args.m.stack ≡ 63 = search rules in (omega arith, omega (arith, h))
+store-requires-2 c = let h : length c.args.m.stack ≡ 63 = search rules in (omega arith, omega (arith, h))
 
 pub returns : goal.returns
-returns c = let g = c.well-formed.0 in let h : length c.args.m.stack ≡ 63 = search rules in whole _ _ _ _ _ c.args.m.core c.args.m.stack h (rw c.core_words-core.ensures at c.store.ensures) c.store-2.ensures c.put.ensures c.store-3.ensures
+returns c = let h : length c.args.m.stack ≡ 63 = search rules in whole _ _ _ _ _ c.args.m.core c.args.m.stack h (rw c.core_words-core.ensures at c.store.ensures) c.store-2.ensures c.put.ensures c.store-3.ensures

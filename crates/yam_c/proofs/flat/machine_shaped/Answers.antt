@@ -1,7 +1,5 @@
 -- `yam_c::flat::machine_shaped` meets its contract. Assumes nothing.
 use Rattle.yam_c.proofs.Machines.{shaped_by, unshaped}
-use borrow.Author.Rules.{rules}
-use Rattle.guards.proofs.joined.Reads as joined-reads
 use Rattle.yam_c.proofs.flat.machine_shaped.Goals as goal
 
 pub returns-then-flat-ne-MACHINE_WORDS : goal.returns-then-flat-ne-MACHINE_WORDS

@@ -1,7 +1,6 @@
 -- `yam_c::flat::put` meets its contract. Assumes nothing.
 use mathlib.Core.Path.{sym}
 use lib.Seq.{set_out}
-use borrow.Author.Rules.{rules}
 use Rattle.yam_c.proofs.flat.put.Goals as goal
 
 pub returns-else-i-flat : goal.returns-else-i-flat

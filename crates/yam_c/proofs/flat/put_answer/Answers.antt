@@ -1,7 +1,6 @@
 -- `yam_c::flat::put_answer` meets its contract. Assumes nothing.
 use mathlib.Core.Path.{sym}
 use lib.Seq.{set_out}
-use borrow.Author.Rules.{rules}
 use Rattle.yam_c.proofs.flat.put_answer.Goals as goal
 
 pub returns-else-i-answers : goal.returns-else-i-answers

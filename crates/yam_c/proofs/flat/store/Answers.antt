@@ -1,10 +1,7 @@
 -- `yam_c::flat::store` meets its contract. Assumes nothing.
-use mathlib.Core.Path.{◌≡◌, refl, sym, ap, ◌∙◌}
+use mathlib.Core.Path.{refl, sym, ap, ◌∙◌}
 use native.Mathlib.Omega.{arith}
-use Prim.Native.Nat.{◌+◌, ◌-◌}
-use borrow.Author.Rules.{rules}
-use lib.ListN.{length, length-set, drop}
-use Rattle.yam_c.specs.Flat.{stored}
+use lib.ListN.{length, length-set}
 use Rattle.yam_c.proofs.Storing.{stored_first, stored_next, stored_done}
 use Rattle.yam_c.proofs.flat.store.Goals as goal
 

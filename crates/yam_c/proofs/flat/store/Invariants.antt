@@ -1,11 +1,8 @@
 -- `yam_c::flat::store` meets its contract. Assumes nothing.
-use mathlib.Core.Path.{◌≡◌, refl, sym, ap, ◌∙◌}
-use native.Mathlib.Omega.{arith}
+use mathlib.Core.Path.{◌≡◌}
 use Prim.Native.Nat.{◌+◌, ◌-◌}
-use borrow.Author.Rules.{rules}
-use lib.ListN.{length, length-set, drop}
+use lib.ListN.{length, drop}
 use Rattle.yam_c.specs.Flat.{stored}
-use Rattle.yam_c.proofs.Storing.{stored_first, stored_next, stored_done}
 use Rattle.yam_c.proofs.flat.store.Given as goal
 
 abbrev pub invariant-loop-i : goal.invariant-loop-i
