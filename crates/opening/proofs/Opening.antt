@@ -4,7 +4,7 @@ use mathlib.Core.Path.{◌≡◌, refl, sym, ap, ◌∙◌}
 use mathlib.Core.List.{List}
 use native.Mathlib.Omega.{arith}
 use borrow.Author.Tests.{le-leb, lt-leb}
-use lib.ListN.{length, take, drop_of_length-le}
+use lib.ListN.{length, drop_of_length-le}
 use lib.Seq.{take_all, length-take-le}
 use Rattle.laws.specs.Choice.{pick}
 use Rattle.image.specs.declared.Loaded.{Loaded}

@@ -1,13 +1,13 @@
 -- A listing's line of an address, as it is put. Assumes nothing.
 use Prim.Native.Nat.{ℕ, ◌+◌, ◌<◌}
 use mathlib.Core.Path.{◌≡◌, refl, sym, ap, ◌∙◌}
-use mathlib.Core.Bool.{Bool, true, false, not}
+use mathlib.Core.Bool.{Bool, true, false}
 use mathlib.Core.List.{List, [], ◌++◌, append_assoc}
 use native.Mathlib.Omega.{arith}
 use lib.Dec.{leb}
 use lib.ListN.{length, get_or}
 use Rattle.laws.specs.Choice.{pick, pick_yes}
-use Rattle.laws.specs.Test.{test, Holds, tests}
+use Rattle.laws.specs.Test.{test, tests}
 use Rattle.words.specs.declared.Config.{Config}
 use Rattle.words.specs.Configs.{lawful}
 use Rattle.syntax.specs.Digits.{hex}

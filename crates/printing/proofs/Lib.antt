@@ -1,3 +1,4 @@
+pub mod Powers
 pub mod Numerals
 pub mod Puts
 pub mod Entries

@@ -1,3 +1,4 @@
+pub mod Digits
 pub mod Numerals
 pub mod Puts
 pub mod Entries

@@ -2,7 +2,7 @@
 use Rattle.std.specs.Prelude.{ℕ, zero, suc, ◌/◌, List, ◌++◌, ltb}
 use Rattle.laws.specs.Choice.{pick}
 use Rattle.syntax.specs.Quoted.{quoted}
-use Rattle.io.specs.Digits.{last_digits}
+use Rattle.printing.specs.Digits.{last_digits}
 
 -- how many digits n has, k and one more at most
 unfoldable pub places_from : ℕ → ℕ → ℕ

@@ -9,6 +9,9 @@ ghost use Rattle.printing.specs.Numerals.{decimal, refusal_line};
 ghost use Rattle.printing.specs.Entries.{shown_word, entry_of, EntryIsLine};
 ghost use Rattle.printing.specs.Puts.{Puts};
 
+mod digits;
+
+use digits::decimal;
 use words::Config;
 
 // The bytes of the largest decimal number of 64 bits.
@@ -95,7 +98,7 @@ pub fn put_decimal(page: &mut [u8], at: usize, n: u64) -> usize
     ensures { Puts page.old at (decimal n) result page.new }
 {
     let mut digits = [0u8; DECIMAL_BYTES];
-    let k = io::decimal(n, &mut digits);
+    let k = decimal(n, &mut digits);
     put_bytes(page, at, &digits[..k])
 }
 

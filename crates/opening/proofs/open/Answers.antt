@@ -1,6 +1,5 @@
 -- `opening::open` meets its contract. Assumes nothing.
 use mathlib.Core.Path.{refl}
-use borrow.Author.Rules.{rules}
 use Rattle.opening.proofs.Opening.{opens}
 use Rattle.opening.proofs.open.Goals as goal
 

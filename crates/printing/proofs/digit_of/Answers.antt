@@ -2,7 +2,6 @@
 use Rattle.laws.specs.Choice.{pick}
 use Rattle.syntax.specs.Digits.{digit}
 use borrow.Author.Tests.{lt-ltb, le-ltb}
-use borrow.Author.Rules.{rules}
 use Rattle.printing.proofs.digit_of.Goals as goal
 
 pub returns-then-d-lt10 : goal.returns-then-d-lt10

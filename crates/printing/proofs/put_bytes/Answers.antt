@@ -1,6 +1,5 @@
 -- `printing::put_bytes` meets its contract. Assumes nothing.
 use mathlib.Core.Path.{refl}
-use borrow.Author.Rules.{rules}
 use Rattle.printing.proofs.Puts.{no_room, stored, has_place}
 use Rattle.printing.proofs.put_bytes.Goals as goal
 

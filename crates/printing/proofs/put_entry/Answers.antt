@@ -1,7 +1,6 @@
 -- `printing::put_entry` meets its contract. Assumes nothing.
 use Rattle.printing.proofs.Puts.{puts_then}
 use Rattle.printing.proofs.Entries.{entry_is_line, entry_put}
-use borrow.Author.Rules.{rules}
 use Rattle.printing.proofs.put_entry.Goals as goal
 
 pub returns : goal.returns

@@ -1,6 +1,5 @@
 -- `printing::put_hex` meets its contract. Assumes nothing.
 use mathlib.Core.Path.{sym}
-use borrow.Author.Rules.{rules}
 use Rattle.syntax.specs.Digits.{digit, hex}
 use Rattle.text.proofs.Spelled.{length_spelled}
 use Rattle.printing.proofs.Puts.{no_room, stored, has_place}

@@ -1,7 +1,6 @@
 -- `printing::put_refusal` meets its contract. Assumes nothing.
 use Rattle.printing.proofs.Puts.{puts_then}
 use Rattle.printing.specs.Numerals.{refusal_line}
-use borrow.Author.Rules.{rules}
 use Rattle.printing.proofs.put_refusal.Goals as goal
 
 pub returns : goal.returns

@@ -1,5 +1,4 @@
 -- `printing::put_shown` meets its contract. Assumes nothing.
-use borrow.Author.Rules.{rules}
 use Rattle.printing.proofs.Entries.{shown_put, shown_beyond}
 use Rattle.printing.proofs.put_shown.Goals as goal
 

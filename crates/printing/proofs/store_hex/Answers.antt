@@ -1,9 +1,7 @@
 -- `printing::store_hex` meets its contract. Assumes nothing.
-use Prim.Native.Nat.{◌≤◌}
-use mathlib.Core.Path.{◌≡◌, refl}
-use lib.ListN.{length, length-set}
-use lib.Seq.{sets}
-use Rattle.syntax.specs.Digits.{spelled, digit}
+use mathlib.Core.Path.{refl}
+use lib.ListN.{length-set}
+use Rattle.syntax.specs.Digits.{digit}
 use Rattle.text.proofs.Spelled.{digit_next, digits_done}
 use native.Mathlib.Omega.{arith}
 use Rattle.printing.proofs.store_hex.Goals as goal

@@ -1,11 +1,9 @@
 -- `printing::store_hex` meets its contract. Assumes nothing.
 use Prim.Native.Nat.{◌≤◌}
-use mathlib.Core.Path.{◌≡◌, refl}
-use lib.ListN.{length, length-set}
+use mathlib.Core.Path.{◌≡◌}
+use lib.ListN.{length}
 use lib.Seq.{sets}
 use Rattle.syntax.specs.Digits.{spelled, digit}
-use Rattle.text.proofs.Spelled.{digit_next, digits_done}
-use native.Mathlib.Omega.{arith}
 use Rattle.printing.proofs.store_hex.Given as goal
 
 abbrev pub invariant-loop-i : goal.invariant-loop-i

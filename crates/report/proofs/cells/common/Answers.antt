@@ -1,6 +1,5 @@
 -- `report::cells::common` meets its contract. Assumes nothing.
 use Rattle.report.proofs.Loops.{shorter, not_shorter}
-use borrow.Author.Rules.{rules}
 use Rattle.report.proofs.cells.common.Goals as goal
 
 pub returns-then-a-b : goal.returns-then-a-b

@@ -1,6 +1,5 @@
 -- `report::cells::put_cell` meets its contract. Assumes nothing.
 use Rattle.printing.proofs.Puts.{puts_then}
-use borrow.Author.Rules.{rules}
 use Rattle.report.proofs.cells.put_cell.Goals as goal
 
 pub returns : goal.returns

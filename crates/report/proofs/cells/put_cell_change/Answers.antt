@@ -3,7 +3,6 @@ use Rattle.printing.proofs.Puts.{puts_then}
 use Rattle.syntax.specs.Digits.{hex}
 use Rattle.report.proofs.Texts.{unchanged, changed_cell}
 use mathlib.Core.List.{◌++◌}
-use borrow.Author.Rules.{rules}
 use Rattle.report.proofs.cells.put_cell_change.Goals as goal
 
 pub returns-then-x-y : goal.returns-then-x-y

@@ -1,11 +1,7 @@
 -- `report::cells::put_cell_changes` meets its contract. Assumes nothing.
-use Prim.Native.Nat.{◌-◌}
-use mathlib.Core.Path.{◌≡◌, refl, ◌∙◌}
+use mathlib.Core.Path.{refl, ◌∙◌}
 use native.Mathlib.Omega.{arith}
-use lib.ListN.{length, drop}
-use Rattle.report.specs.Cells.{cell_changes}
-use Rattle.report.proofs.Loops.{Leads, starts, changes_on, changes_done, both_past}
-use borrow.Author.Rules.{rules}
+use Rattle.report.proofs.Loops.{starts, changes_on, changes_done, both_past}
 use Rattle.report.proofs.cells.put_cell_changes.Goals as goal
 
 pub loop-i-init : goal.loop-i-init

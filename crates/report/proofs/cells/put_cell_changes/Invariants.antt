@@ -1,11 +1,9 @@
 -- `report::cells::put_cell_changes` meets its contract. Assumes nothing.
 use Prim.Native.Nat.{◌-◌}
-use mathlib.Core.Path.{◌≡◌, refl, ◌∙◌}
-use native.Mathlib.Omega.{arith}
+use mathlib.Core.Path.{◌≡◌}
 use lib.ListN.{length, drop}
 use Rattle.report.specs.Cells.{cell_changes}
-use Rattle.report.proofs.Loops.{Leads, starts, changes_on, changes_done, both_past}
-use borrow.Author.Rules.{rules}
+use Rattle.report.proofs.Loops.{Leads}
 use Rattle.report.proofs.cells.put_cell_changes.Given as goal
 
 abbrev pub invariant-loop-i : goal.invariant-loop-i

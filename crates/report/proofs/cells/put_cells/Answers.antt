@@ -1,10 +1,6 @@
 -- `report::cells::put_cells` meets its contract. Assumes nothing.
-use Prim.Native.Nat.{◌-◌}
-use mathlib.Core.Path.{◌≡◌, refl, ◌∙◌}
-use lib.ListN.{length, drop}
-use Rattle.report.specs.Cells.{each_cell}
-use Rattle.report.proofs.Loops.{Leads, starts, cells_on, cells_done}
-use borrow.Author.Rules.{rules}
+use mathlib.Core.Path.{refl, ◌∙◌}
+use Rattle.report.proofs.Loops.{starts, cells_on, cells_done}
 use Rattle.report.proofs.cells.put_cells.Goals as goal
 
 pub loop-i-init : goal.loop-i-init

@@ -1,10 +1,9 @@
 -- `report::cells::put_cells` meets its contract. Assumes nothing.
 use Prim.Native.Nat.{◌-◌}
-use mathlib.Core.Path.{◌≡◌, refl, ◌∙◌}
+use mathlib.Core.Path.{◌≡◌}
 use lib.ListN.{length, drop}
 use Rattle.report.specs.Cells.{each_cell}
-use Rattle.report.proofs.Loops.{Leads, starts, cells_on, cells_done}
-use borrow.Author.Rules.{rules}
+use Rattle.report.proofs.Loops.{Leads}
 use Rattle.report.proofs.cells.put_cells.Given as goal
 
 abbrev pub invariant-loop-i : goal.invariant-loop-i

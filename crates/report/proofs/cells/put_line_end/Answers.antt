@@ -1,6 +1,5 @@
 -- `report::cells::put_line_end` meets its contract. Assumes nothing.
 use Rattle.report.proofs.Texts.{no_end, has_end}
-use borrow.Author.Rules.{rules}
 use Rattle.report.proofs.cells.put_line_end.Goals as goal
 
 pub returns-then-i : goal.returns-then-i

@@ -1,7 +1,6 @@
 -- `report::cells::put_name` meets its contract. Assumes nothing.
 use Rattle.printing.proofs.Puts.{puts_then}
 use Rattle.report.proofs.Texts.{no_name, has_name}
-use borrow.Author.Rules.{rules}
 use Rattle.report.proofs.cells.put_name.Goals as goal
 
 pub returns-then-i-ne0 : goal.returns-then-i-ne0

@@ -1,6 +1,5 @@
 -- `report::cells::put_pair` meets its contract. Assumes nothing.
 use Rattle.printing.proofs.Puts.{puts_then}
-use borrow.Author.Rules.{rules}
 use Rattle.report.proofs.cells.put_pair.Goals as goal
 
 pub returns : goal.returns

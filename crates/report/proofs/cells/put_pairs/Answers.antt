@@ -1,11 +1,7 @@
 -- `report::cells::put_pairs` meets its contract. Assumes nothing.
-use Prim.Native.Nat.{◌-◌}
-use mathlib.Core.Path.{◌≡◌, refl, ◌∙◌}
+use mathlib.Core.Path.{refl, ◌∙◌}
 use native.Mathlib.Omega.{arith}
-use lib.ListN.{length, drop}
-use Rattle.report.specs.Cells.{each_pair}
-use Rattle.report.proofs.Loops.{Leads, starts, pairs_on, pairs_done, both_past}
-use borrow.Author.Rules.{rules}
+use Rattle.report.proofs.Loops.{starts, pairs_on, pairs_done, both_past}
 use Rattle.report.proofs.cells.put_pairs.Goals as goal
 
 pub loop-i-init : goal.loop-i-init

@@ -1,7 +1,6 @@
 -- `report::cells::put_register` meets its contract. Assumes nothing.
 use Rattle.printing.proofs.Puts.{puts_then}
 use Rattle.report.specs.Cells.{register_text}
-use borrow.Author.Rules.{rules}
 use Rattle.report.proofs.cells.put_register.Goals as goal
 
 pub returns : goal.returns

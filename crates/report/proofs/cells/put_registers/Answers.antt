@@ -1,10 +1,6 @@
 -- `report::cells::put_registers` meets its contract. Assumes nothing.
-use Prim.Native.Nat.{◌-◌}
-use mathlib.Core.Path.{◌≡◌, refl, ◌∙◌}
-use lib.ListN.{length, drop}
-use Rattle.report.specs.Cells.{registers_from}
-use Rattle.report.proofs.Loops.{Leads, starts, registers_on, registers_done}
-use borrow.Author.Rules.{rules}
+use mathlib.Core.Path.{refl, ◌∙◌}
+use Rattle.report.proofs.Loops.{starts, registers_on, registers_done}
 use Rattle.report.proofs.cells.put_registers.Goals as goal
 
 pub loop-i-init : goal.loop-i-init

@@ -1,6 +1,5 @@
 -- `report::fields::put_changed_masks` meets its contract. Assumes nothing.
 use Rattle.printing.proofs.Puts.{nothing, puts_then}
-use borrow.Author.Rules.{rules}
 use Rattle.report.proofs.fields.put_changed_masks.Goals as goal
 
 pub shape_of-page : goal.shape_of-page

@@ -1,6 +1,5 @@
 -- `report::fields::put_counts` meets its contract. Assumes nothing.
 use Rattle.printing.proofs.Puts.{nothing, puts_then}
-use borrow.Author.Rules.{rules}
 use Rattle.report.proofs.fields.put_counts.Goals as goal
 
 pub shape_of-page : goal.shape_of-page

@@ -2,7 +2,6 @@
 use Rattle.printing.proofs.Puts.{puts_then}
 use Rattle.syntax.specs.Digits.{hex}
 use Rattle.report.proofs.Texts.{unchanged, changed}
-use borrow.Author.Rules.{rules}
 use Rattle.report.proofs.fields.put_hex_change.Goals as goal
 
 pub returns-then-old-new : goal.returns-then-old-new

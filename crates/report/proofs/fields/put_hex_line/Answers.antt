@@ -1,7 +1,6 @@
 -- `report::fields::put_hex_line` meets its contract. Assumes nothing.
 use Rattle.printing.proofs.Puts.{puts_then}
 use Rattle.report.specs.Fields.{line_text}
-use borrow.Author.Rules.{rules}
 use Rattle.report.proofs.fields.put_hex_line.Goals as goal
 
 pub returns : goal.returns

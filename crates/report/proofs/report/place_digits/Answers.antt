@@ -1,6 +1,5 @@
 -- `report::report::place_digits` meets its contract. Assumes nothing.
 use Rattle.report.proofs.Texts.{single, banked}
-use borrow.Author.Rules.{rules}
 use Rattle.report.proofs.report.place_digits.Goals as goal
 
 pub returns-then-c : goal.returns-then-c

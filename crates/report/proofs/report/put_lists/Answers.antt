@@ -1,7 +1,6 @@
 -- `report::report::put_lists` meets its contract. Assumes nothing.
 use Rattle.printing.proofs.Puts.{puts_then}
 use Rattle.report.specs.Report.{lists_text}
-use borrow.Author.Rules.{rules}
 use Rattle.report.proofs.report.put_lists.Goals as goal
 
 pub slice_bounds-put_cells-end : goal.slice_bounds-put_cells-end

@@ -1,7 +1,6 @@
 -- `report::report::put_outcome` meets its contract. Assumes nothing.
 use Rattle.printing.proofs.Puts.{puts_then}
 use Rattle.report.specs.Report.{outcome_text}
-use borrow.Author.Rules.{rules}
 use Rattle.report.proofs.report.put_outcome.Goals as goal
 
 pub returns : goal.returns

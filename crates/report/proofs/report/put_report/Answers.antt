@@ -1,7 +1,6 @@
 -- `report::report::put_report` meets its contract. Assumes nothing.
 use Rattle.printing.proofs.Puts.{puts_then}
 use Rattle.report.specs.Report.{report_of}
-use borrow.Author.Rules.{rules}
 use Rattle.report.proofs.report.put_report.Goals as goal
 
 pub shape_of-page : goal.shape_of-page

@@ -1,7 +1,6 @@
 -- `report::trace::put_changed_cells` meets its contract. Assumes nothing.
 use Rattle.printing.proofs.Puts.{puts_then}
 use Rattle.report.specs.Trace.{changed_cells}
-use borrow.Author.Rules.{rules}
 use Rattle.report.proofs.trace.put_changed_cells.Goals as goal
 
 pub slice_bounds-put_cells-end : goal.slice_bounds-put_cells-end

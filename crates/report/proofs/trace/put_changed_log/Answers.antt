@@ -1,6 +1,5 @@
 -- `report::trace::put_changed_log` meets its contract. Assumes nothing.
 use Rattle.report.specs.Trace.{changed_log}
-use borrow.Author.Rules.{rules}
 use Rattle.report.proofs.trace.put_changed_log.Goals as goal
 
 pub slice_bounds-put_pairs-end : goal.slice_bounds-put_pairs-end

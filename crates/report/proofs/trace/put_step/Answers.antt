@@ -1,7 +1,6 @@
 -- `report::trace::put_step` meets its contract. Assumes nothing.
 use Rattle.printing.proofs.Puts.{puts_then}
 use Rattle.report.specs.Trace.{step_text}
-use borrow.Author.Rules.{rules}
 use Rattle.report.proofs.trace.put_step.Goals as goal
 
 pub returns : goal.returns

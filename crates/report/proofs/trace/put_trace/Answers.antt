@@ -1,7 +1,6 @@
 -- `report::trace::put_trace` meets its contract. Assumes nothing.
 use Rattle.printing.proofs.Puts.{puts_then}
 use Rattle.report.specs.Trace.{trace_line}
-use borrow.Author.Rules.{rules}
 use Rattle.report.proofs.trace.put_trace.Goals as goal
 
 pub shape_of-page : goal.shape_of-page
