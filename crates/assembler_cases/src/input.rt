@@ -1,4 +1,6 @@
 // Standard input, byte by byte.
+use std::io;
+use std::io::Read;
 
 // No byte is left.
 pub const END: u32 = 256;
@@ -7,10 +9,10 @@ pub const NEWLINE: u32 = 10;
 
 const BACKSLASH: u32 = 92;
 
-pub fn byte() -> u32 {
+pub fn byte(rt: &impl Input) -> io::Result<u32> {
     let mut one = [0u8; 1];
-    let got = libc::read(0, &mut one);
-    if got == 1 { wide(one[0]) } else { END }
+    let got = rt.reader().read(&mut one)?;
+    Ok(if got == 1 { wide(one[0]) } else { END })
 }
 
 fn wide(b: u8) -> u32 {
@@ -33,48 +35,49 @@ fn digit(b: u32) -> u32 {
 }
 
 // A number: hex digits up to the first byte that is none, which is passed over; its low 32 bits.
-pub fn number() -> u32 {
+pub fn number(rt: &impl Input) -> io::Result<u32> {
     let mut v: u32 = 0;
     let mut left: u32 = 64;
     while 0 < left {
         left -= 1;
-        let d = digit(byte());
+        let d = digit(byte(rt)?);
         if 16 <= d {
-            return v;
+            return Ok(v);
         }
         v = v % 268435456 * 16 + d % 16;
     }
-    v
+    Ok(v)
 }
 
 // A byte of a text: END where the line ends; after a backslash the byte of two hex digits.
-pub fn text_byte() -> u32 {
-    let b = byte();
+pub fn text_byte(rt: &impl Input) -> io::Result<u32> {
+    let b = byte(rt)?;
     if b == NEWLINE {
-        return END;
+        return Ok(END);
     }
     if b == BACKSLASH {
-        let high = digit(byte());
-        let low = digit(byte());
-        return high % 16 * 16 + low % 16;
+        let high = digit(byte(rt)?);
+        let low = digit(byte(rt)?);
+        return Ok(high % 16 * 16 + low % 16);
     }
-    b
+    Ok(b)
 }
 
 // Prints what is left of the line, with a # before it.
-pub fn echo_line() {
-    io::write_all(1, b"#");
+pub fn echo_line(rt: &(impl Input + Print)) -> io::Result<()> {
+    rt.write_all(b"#")?;
     let mut left: u32 = 200;
     while 0 < left {
         left -= 1;
-        let b = byte();
+        let b = byte(rt)?;
         if b == END {
-            return;
+            return Ok(());
         }
         let one = [(b % 256) as u8];
-        io::write_all(1, &one);
+        rt.write_all(&one)?;
         if b == NEWLINE {
-            return;
+            return Ok(());
         }
     }
+    Ok(())
 }

@@ -20,33 +20,34 @@ mod input;
 mod source;
 
 use assembler::Assembled;
+use std::io;
 use words::Config;
 
 // What a word holds before it is written.
 const OLD: u32 = 0xa5a5a5a5;
 
 // Each value in a variable: fields are taken in the order of the input.
-fn config() -> Config {
-    let imwidth = input::number();
-    let imsize = input::number();
-    let regwidth = input::number();
-    let regsize = input::number();
-    let rmsize = input::number();
-    let pcstack = input::number();
-    let dmsize = input::number();
-    let dmpipe = input::number();
-    let alulevel = input::number();
-    let alumult = input::number();
-    let aluspr = input::number();
-    let iopif = input::number();
-    let ioprmw = input::number();
-    let yamclk = input::number();
-    let yamsreg3 = input::number();
-    let alu3op = input::number();
-    let irqif = input::number();
-    let copmsize = input::number();
-    let yamdbg = input::number();
-    Config {
+fn config(rt: &impl Input) -> io::Result<Config> {
+    let imwidth = input::number(rt)?;
+    let imsize = input::number(rt)?;
+    let regwidth = input::number(rt)?;
+    let regsize = input::number(rt)?;
+    let rmsize = input::number(rt)?;
+    let pcstack = input::number(rt)?;
+    let dmsize = input::number(rt)?;
+    let dmpipe = input::number(rt)?;
+    let alulevel = input::number(rt)?;
+    let alumult = input::number(rt)?;
+    let aluspr = input::number(rt)?;
+    let iopif = input::number(rt)?;
+    let ioprmw = input::number(rt)?;
+    let yamclk = input::number(rt)?;
+    let yamsreg3 = input::number(rt)?;
+    let alu3op = input::number(rt)?;
+    let irqif = input::number(rt)?;
+    let copmsize = input::number(rt)?;
+    let yamdbg = input::number(rt)?;
+    Ok(Config {
         imwidth,
         imsize,
         regwidth,
@@ -66,7 +67,7 @@ fn config() -> Config {
         irqif,
         copmsize,
         yamdbg,
-    }
+    })
 }
 
 fn no_config() -> Config {
@@ -112,70 +113,77 @@ fn assemble_lent(
     assembler::assemble(c, &source[..end], &mut words[..size])
 }
 
-fn put_answer(r: Assembled) {
-    io::write_all(1, b" ");
-    io::print_decimal(1, r.number as u64);
-    io::write_all(1, b" ");
-    io::print_decimal(1, r.line as u64);
-    io::write_all(1, b" ");
-    io::print_decimal(1, r.count as u64);
+fn put_answer(rt: &impl Print, r: Assembled) -> io::Result<()> {
+    print!(rt; " {} {} {}", r.number, r.line, r.count)
 }
 
-fn put_word(at: usize, word: u32) {
+fn put_word(rt: &impl Print, at: usize, word: u32) -> io::Result<()> {
     if word != OLD {
-        io::write_all(1, b" ");
-        io::print_hex(1, at as u64, 1);
-        io::write_all(1, b"=");
-        io::print_hex(1, word as u64, 8);
+        print!(rt; " {at:x}={word:08x}")?;
     }
+    Ok(())
 }
 
-fn put_words(words: &[u32]) {
+fn put_words(rt: &impl Print, words: &[u32]) -> io::Result<()> {
     for at in 0..words.len() {
-        put_word(at, words[at]);
+        put_word(rt, at, words[at])?;
     }
+    Ok(())
 }
 
-fn assemble_case(c: Config, source: &[u8], bytes: usize, lent: usize) {
+fn assemble_case(
+    rt: &impl Print,
+    c: Config,
+    source: &[u8],
+    bytes: usize,
+    lent: usize,
+) -> io::Result<()> {
     let mut words = [OLD; 64];
     let r = assemble_lent(c, source, bytes, &mut words, lent);
-    io::write_all(1, b"assemble");
-    put_answer(r);
-    io::write_all(1, b":");
-    put_words(&words);
-    io::write_all(1, b"\n");
+    print!(rt; "assemble")?;
+    put_answer(rt, r)?;
+    print!(rt; ":")?;
+    put_words(rt, &words)?;
+    println!(rt)
 }
 
 // Assembles with one byte more; prints the answer unless it is the one of the byte before.
 fn byte_case(
+    rt: &impl Print,
     c: Config,
     source: &mut [u8],
     bytes: usize,
     lent: usize,
     byte: u32,
     before: Assembled,
-) -> Assembled {
+) -> io::Result<Assembled> {
     let end = source::add(source, bytes, byte);
     let mut words = [OLD; 64];
     let r = assemble_lent(c, source, end, &mut words, lent);
     if (r.number != before.number) | (r.line != before.line) | (r.count != before.count) {
-        io::write_all(1, b"byte ");
-        io::print_hex(1, byte as u64, 2);
-        put_answer(r);
-        io::write_all(1, b"\n");
+        print!(rt; "byte {byte:02x}")?;
+        put_answer(rt, r)?;
+        println!(rt)?;
     }
-    r
+    Ok(r)
 }
 
-fn every_byte(c: Config, source: &mut [u8], bytes: usize, lent: usize) {
+fn every_byte(
+    rt: &impl Print,
+    c: Config,
+    source: &mut [u8],
+    bytes: usize,
+    lent: usize,
+) -> io::Result<()> {
     let mut before = Assembled {
         number: 0,
         line: 0,
         count: 65,
     };
     for byte in 0..256 {
-        before = byte_case(c, source, bytes, lent, byte, before);
+        before = byte_case(rt, c, source, bytes, lent, byte, before)?;
     }
+    Ok(())
 }
 
 fn place(n: u32) -> usize {
@@ -183,46 +191,53 @@ fn place(n: u32) -> usize {
 }
 
 // One case that is not a configuration; answers the bytes of the source after it.
-fn case(b: u32, c: Config, source: &mut [u8], bytes: usize) -> usize {
+fn case(
+    rt: &(impl Input + Print),
+    b: u32,
+    c: Config,
+    source: &mut [u8],
+    bytes: usize,
+) -> io::Result<usize> {
     if b == 116 {
-        return source::add_text(source, bytes);
+        return source::add_text(rt, source, bytes);
     }
-    let n = input::number();
+    let n = input::number(rt)?;
     if b == 114 {
-        return source::add_times(source, bytes, n);
+        return source::add_times(rt, source, bytes, n);
     }
     if b == 108 {
-        return source::add_labels(source, bytes, n);
+        return Ok(source::add_labels(source, bytes, n));
     }
     if b == 97 {
-        assemble_case(c, source, bytes, place(n));
+        assemble_case(rt, c, source, bytes, place(n))?;
     }
     if b == 101 {
-        every_byte(c, source, bytes, place(n));
+        every_byte(rt, c, source, bytes, place(n))?;
     }
-    0
+    Ok(0)
 }
 
-fn main() {
+fn main(rt: HostRuntime) -> io::Result<()> {
     let mut c = no_config();
     let mut source = [0u8; 16384];
     let mut bytes: usize = 0;
     let mut left: u32 = 100000;
     while 0 < left {
         left -= 1;
-        let b = input::byte();
+        let b = input::byte(&rt)?;
         if b == input::END {
-            return;
+            return Ok(());
         }
         if b == 35 {
-            input::echo_line();
+            input::echo_line(&rt)?;
         } else {
-            let _ = input::byte();
+            let _ = input::byte(&rt)?;
             if b == 107 {
-                c = config();
+                c = config(&rt)?;
             } else {
-                bytes = case(b, c, &mut source, bytes);
+                bytes = case(&rt, b, c, &mut source, bytes)?;
             }
         }
     }
+    Ok(())
 }

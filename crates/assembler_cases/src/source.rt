@@ -1,5 +1,6 @@
 // The source of the next case: a buffer, of which the first bytes are the text.
 use crate::input::{END, text_byte};
+use std::io;
 
 // Adds a byte, where there is room; answers how many there are.
 pub fn add(source: &mut [u8], size: usize, byte: u32) -> usize {
@@ -11,18 +12,18 @@ pub fn add(source: &mut [u8], size: usize, byte: u32) -> usize {
 }
 
 // Adds what is left of the line.
-pub fn add_text(source: &mut [u8], size: usize) -> usize {
+pub fn add_text(rt: &impl Input, source: &mut [u8], size: usize) -> io::Result<usize> {
     let mut end = size;
     let mut left: u32 = 100000;
     while 0 < left {
         left -= 1;
-        let b = text_byte();
+        let b = text_byte(rt)?;
         if b == END {
-            return end;
+            return Ok(end);
         }
         end = add(source, end, b);
     }
-    end
+    Ok(end)
 }
 
 fn byte_at(source: &[u8], at: usize) -> u32 {
@@ -50,15 +51,15 @@ fn add_again(source: &mut [u8], from: usize, end: usize, size: usize) -> usize {
 }
 
 // Adds what is left of the line, so many times.
-pub fn add_times(source: &mut [u8], size: usize, times: u32) -> usize {
-    let end = add_text(source, size);
+pub fn add_times(rt: &impl Input, source: &mut [u8], size: usize, times: u32) -> io::Result<usize> {
+    let end = add_text(rt, source, size)?;
     let mut after = end;
     let mut done: u32 = 1;
     while done < times {
         after = add_again(source, size, end, after);
         done += 1;
     }
-    after
+    Ok(after)
 }
 
 // Letter k of label n, of the twenty from g on.

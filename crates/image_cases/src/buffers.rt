@@ -2,6 +2,7 @@
 ghost use Rattle.std.specs.Prelude.{◌<◌};
 
 use crate::input::number;
+use std::io;
 
 pub fn place(n: u32) -> usize {
     n as usize
@@ -59,29 +60,29 @@ fn fill_file(to: &mut [u8], value: u32) {
 }
 
 // The image slice: its length, what fills it, a count, and as many pairs of place and word.
-pub fn image(to: &mut [u32]) -> usize {
-    let n = number();
-    fill(to, number());
-    let mut left = number();
+pub fn image(rt: &impl Input, to: &mut [u32]) -> io::Result<usize> {
+    let n = number(rt)?;
+    fill(to, number(rt)?);
+    let mut left = number(rt)?;
     while 0 < left {
         left -= 1;
-        let at = number();
-        let value = number();
+        let at = number(rt)?;
+        let value = number(rt)?;
         put(to, place(at), value);
     }
-    place(n)
+    Ok(place(n))
 }
 
 // The file: its length, what fills it, a count, and as many pairs of place and word.
-pub fn file(to: &mut [u8]) -> usize {
-    let n = number();
-    fill_file(to, number());
-    let mut left = number();
+pub fn file(rt: &impl Input, to: &mut [u8]) -> io::Result<usize> {
+    let n = number(rt)?;
+    fill_file(to, number(rt)?);
+    let mut left = number(rt)?;
     while 0 < left {
         left -= 1;
-        let at = number();
-        let value = number();
+        let at = number(rt)?;
+        let value = number(rt)?;
         put_word(to, place(at), value);
     }
-    place(n)
+    Ok(place(n))
 }

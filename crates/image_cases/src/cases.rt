@@ -4,6 +4,7 @@ ghost use Rattle.std.specs.Prelude.{◌≤◌};
 use crate::buffers::word_at;
 use crate::input::number;
 use image::Loaded;
+use std::io;
 use words::Config;
 
 // The configuration of 19 numbers in its order.
@@ -32,54 +33,56 @@ fn config_of(n: [u32; 19]) -> Config {
 }
 
 // As many numbers as the list has places.
-pub fn numbers(to: &mut [u32; 19]) {
+pub fn numbers(rt: &impl Input, to: &mut [u32; 19]) -> io::Result<()> {
     for at in 0..19 {
-        to[at] = number();
+        to[at] = number(rt)?;
     }
+    Ok(())
 }
 
-fn put(name: &[u8], n: u32) {
-    io::write_all(1, name);
-    io::print_hex(1, n as u64, 1);
+fn put(rt: &impl Print, name: &[u8], n: u32) -> io::Result<()> {
+    rt.write_all(name)?;
+    print!(rt; "{n:x}")
 }
 
-fn put_config(c: Config) {
+fn put_config(rt: &impl Print, c: Config) -> io::Result<()> {
     let n = [
         c.imwidth, c.imsize, c.regwidth, c.regsize, c.rmsize, c.pcstack, c.dmsize, c.dmpipe,
         c.alulevel, c.alumult, c.aluspr, c.iopif, c.ioprmw, c.yamclk, c.yamsreg3, c.alu3op,
         c.irqif, c.copmsize, c.yamdbg,
     ];
-    io::write_all(1, b":");
+    print!(rt; ":")?;
     for at in 0..19 {
-        put(b" ", n[at]);
+        put(rt, b" ", n[at])?;
     }
+    Ok(())
 }
 
-fn put_cell(at: usize, value: u32) {
-    io::write_all(1, b" ");
-    io::print_hex(1, at as u64, 1);
-    put(b"=", value);
+fn put_cell(rt: &impl Print, at: usize, value: u32) -> io::Result<()> {
+    print!(rt; " {at:x}={value:x}")
 }
 
 // The cells that are not as before.
-fn put_words(before: &[u32], after: &[u32]) {
+fn put_words(rt: &impl Print, before: &[u32], after: &[u32]) -> io::Result<()> {
     for at in 0..after.len() {
         if at < before.len() {
             if before[at] != after[at] {
-                put_cell(at, after[at]);
+                put_cell(rt, at, after[at])?;
             }
         }
     }
+    Ok(())
 }
 
 // The words of the file that are not as before.
-fn put_file(before: &[u8], after: &[u8]) {
+fn put_file(rt: &impl Print, before: &[u8], after: &[u8]) -> io::Result<()> {
     for at in 0..after.len() / 4 {
         let word = word_at(after, at);
         if word_at(before, at) != word {
-            put_cell(at, word);
+            put_cell(rt, at, word)?;
         }
     }
+    Ok(())
 }
 
 fn cut(n: usize, most: usize) -> usize
@@ -101,28 +104,35 @@ fn store_lent(c: Config, bytes: usize, words: usize, file: &mut [u8], image: &[u
     image::store(c, &image[..size], &mut file[..end])
 }
 
-pub fn load_case(bytes: usize, words: usize, file: &[u8; 2048], image: &mut [u32; 512]) {
+pub fn load_case(
+    rt: &impl Print,
+    bytes: usize,
+    words: usize,
+    file: &[u8; 2048],
+    image: &mut [u32; 512],
+) -> io::Result<()> {
     let before = *image;
     let r = load_lent(bytes, words, file, image);
-    put(b"load ", r.number);
-    put_config(r.config);
-    io::write_all(1, b";");
-    put_words(&before, image);
-    io::write_all(1, b"\n");
+    put(rt, b"load ", r.number)?;
+    put_config(rt, r.config)?;
+    print!(rt; ";")?;
+    put_words(rt, &before, image)?;
+    println!(rt)
 }
 
 pub fn store_case(
+    rt: &impl Print,
     config: [u32; 19],
     bytes: usize,
     words: usize,
     file: &mut [u8; 2048],
     image: &[u32; 512],
-) {
+) -> io::Result<()> {
     let c = config_of(config);
     let before = *file;
     let r = store_lent(c, bytes, words, file, image);
-    put(b"store ", r);
-    io::write_all(1, b":");
-    put_file(&before, file);
-    io::write_all(1, b"\n");
+    put(rt, b"store ", r)?;
+    print!(rt; ":")?;
+    put_file(rt, &before, file)?;
+    println!(rt)
 }

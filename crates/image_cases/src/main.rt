@@ -14,37 +14,40 @@ mod buffers;
 mod cases;
 mod input;
 
+use std::io;
+
 // One case. `config` holds the configuration's numbers, `lengths` how much of the file and of the slice is lent.
 fn case(
+    rt: &(impl Input + Print),
     b: u32,
     config: &mut [u32; 19],
     lengths: &mut [usize; 2],
     file: &mut [u8; 2048],
     image: &mut [u32; 512],
-) {
+) -> io::Result<()> {
     if b == 35 {
-        input::echo_line();
-        return;
+        return input::echo_line(rt);
     }
-    let _ = input::byte();
+    let _ = input::byte(rt)?;
     if b == 107 {
-        cases::numbers(config);
+        cases::numbers(rt, config)?;
     }
     if b == 102 {
-        lengths[0] = buffers::file(file);
+        lengths[0] = buffers::file(rt, file)?;
     }
     if b == 105 {
-        lengths[1] = buffers::image(image);
+        lengths[1] = buffers::image(rt, image)?;
     }
     if b == 108 {
-        cases::load_case(lengths[0], lengths[1], file, image);
+        cases::load_case(rt, lengths[0], lengths[1], file, image)?;
     }
     if b == 115 {
-        cases::store_case(*config, lengths[0], lengths[1], file, image);
+        cases::store_case(rt, *config, lengths[0], lengths[1], file, image)?;
     }
+    Ok(())
 }
 
-fn main() {
+fn main(rt: HostRuntime) -> io::Result<()> {
     let mut config = [0u32; 19];
     let mut lengths = [0usize; 2];
     let mut file = [0u8; 2048];
@@ -52,10 +55,11 @@ fn main() {
     let mut left: u32 = 100000;
     while 0 < left {
         left -= 1;
-        let b = input::byte();
+        let b = input::byte(&rt)?;
         if b == input::END {
-            return;
+            return Ok(());
         }
-        case(b, &mut config, &mut lengths, &mut file, &mut image);
+        case(&rt, b, &mut config, &mut lengths, &mut file, &mut image)?;
     }
+    Ok(())
 }

@@ -13,31 +13,32 @@ ghost use Rattle.std.specs.Prelude.{◌≤◌};
 
 mod input;
 
+use std::io;
 use text::{Listed, Texted};
 use words::Config;
 
 // Each value in a variable: fields are taken in the order of the input.
-fn config() -> Config {
-    let imwidth = input::word();
-    let imsize = input::word();
-    let regwidth = input::word();
-    let regsize = input::word();
-    let rmsize = input::word();
-    let pcstack = input::word();
-    let dmsize = input::word();
-    let dmpipe = input::word();
-    let alulevel = input::word();
-    let alumult = input::word();
-    let aluspr = input::word();
-    let iopif = input::word();
-    let ioprmw = input::word();
-    let yamclk = input::word();
-    let yamsreg3 = input::word();
-    let alu3op = input::word();
-    let irqif = input::word();
-    let copmsize = input::word();
-    let yamdbg = input::word();
-    Config {
+fn config(rt: &impl Input) -> io::Result<Config> {
+    let imwidth = input::word(rt)?;
+    let imsize = input::word(rt)?;
+    let regwidth = input::word(rt)?;
+    let regsize = input::word(rt)?;
+    let rmsize = input::word(rt)?;
+    let pcstack = input::word(rt)?;
+    let dmsize = input::word(rt)?;
+    let dmpipe = input::word(rt)?;
+    let alulevel = input::word(rt)?;
+    let alumult = input::word(rt)?;
+    let aluspr = input::word(rt)?;
+    let iopif = input::word(rt)?;
+    let ioprmw = input::word(rt)?;
+    let yamclk = input::word(rt)?;
+    let yamsreg3 = input::word(rt)?;
+    let alu3op = input::word(rt)?;
+    let irqif = input::word(rt)?;
+    let copmsize = input::word(rt)?;
+    let yamdbg = input::word(rt)?;
+    Ok(Config {
         imwidth,
         imsize,
         regwidth,
@@ -57,7 +58,7 @@ fn config() -> Config {
         irqif,
         copmsize,
         yamdbg,
-    }
+    })
 }
 
 fn no_config() -> Config {
@@ -84,9 +85,8 @@ fn no_config() -> Config {
     }
 }
 
-fn put(n: u64) {
-    io::write_all(1, b" ");
-    io::print_hex(1, n, 1);
+fn put(rt: &impl Print, n: u64) -> io::Result<()> {
+    print!(rt; " {n:x}")
 }
 
 fn wide(n: usize) -> u64 {
@@ -100,11 +100,11 @@ fn within(n: usize, most: usize) -> usize
     if n < most { n } else { most }
 }
 
-fn put_page(page: &[u8], n: usize) {
+fn put_page(rt: &impl Print, page: &[u8], n: usize) -> io::Result<()> {
     let m = within(n, page.len());
-    io::write_all(1, b" |");
-    io::write_all(1, &page[..m]);
-    io::write_all(1, b"|\n");
+    print!(rt; " |")?;
+    rt.write_all(&page[..m])?;
+    println!(rt; "|")
 }
 
 fn text_lent(c: Config, w: u32, page: &mut [u8], n: usize, place: usize) -> Texted {
@@ -112,17 +112,16 @@ fn text_lent(c: Config, w: u32, page: &mut [u8], n: usize, place: usize) -> Text
     text::text(c, w, &mut page[..m], place)
 }
 
-fn text_case(c: Config) {
-    let n = input::place();
-    let place = input::place();
-    let w = input::word();
+fn text_case(rt: &(impl Input + Print), c: Config) -> io::Result<()> {
+    let n = input::place(rt)?;
+    let place = input::place(rt)?;
+    let w = input::word(rt)?;
     let mut page = [46u8; 512];
     let r = text_lent(c, w, &mut page, n, place);
-    io::write_all(1, b"text ");
-    io::print_hex(1, w as u64, 8);
-    put(r.number as u64);
-    put(wide(r.place));
-    put_page(&page, n);
+    print!(rt; "text {w:08x}")?;
+    put(rt, r.number as u64)?;
+    put(rt, wide(r.place))?;
+    put_page(rt, &page, n)
 }
 
 fn put_word(to: &mut [u32], at: usize, value: u32) {
@@ -132,13 +131,14 @@ fn put_word(to: &mut [u32], at: usize, value: u32) {
 }
 
 // n words, of which those that have room are kept.
-fn image_words(to: &mut [u32], n: usize) {
+fn image_words(rt: &impl Input, to: &mut [u32], n: usize) -> io::Result<()> {
     let mut at = 0;
     while at < n {
-        let w = input::word();
+        let w = input::word(rt)?;
         put_word(to, at, w);
         at += 1;
     }
+    Ok(())
 }
 
 fn list_lent(
@@ -155,50 +155,51 @@ fn list_lent(
     text::list(c, &image[..w], first, &mut page[..m], place)
 }
 
-fn list_case(c: Config) {
-    let n = input::place();
-    let place = input::place();
-    let first = input::place();
-    let words = input::place();
+fn list_case(rt: &(impl Input + Print), c: Config) -> io::Result<()> {
+    let n = input::place(rt)?;
+    let place = input::place(rt)?;
+    let first = input::place(rt)?;
+    let words = input::place(rt)?;
     let mut image = [0u32; 64];
-    image_words(&mut image, words);
+    image_words(rt, &mut image, words)?;
     let mut page = [46u8; 512];
     let r = list_lent(c, &image, words, first, &mut page, n, place);
-    io::write_all(1, b"list");
-    put(r.number as u64);
-    put(wide(r.place));
-    put(wide(r.next));
-    put_page(&page, n);
+    print!(rt; "list")?;
+    put(rt, r.number as u64)?;
+    put(rt, wide(r.place))?;
+    put(rt, wide(r.next))?;
+    put_page(rt, &page, n)
 }
 
 // One case, and the configuration of the next.
-fn case(b: u32, c: Config) -> Config {
+fn case(rt: &(impl Input + Print), b: u32, c: Config) -> io::Result<Config> {
     if b == 35 {
-        input::echo_line();
-        return c;
+        input::echo_line(rt)?;
+        return Ok(c);
     }
-    let _ = input::byte();
+    let _ = input::byte(rt)?;
     if b == 107 {
-        return config();
+        return config(rt);
     }
     if b == 116 {
-        text_case(c);
+        text_case(rt, c)?;
     }
     if b == 108 {
-        list_case(c);
+        list_case(rt, c)?;
     }
-    c
+    Ok(c)
 }
 
-fn main() {
+fn main(rt: HostRuntime) -> io::Result<()> {
     let mut c = no_config();
     let mut left: u32 = 1000000;
     while 0 < left {
         left -= 1;
-        let b = input::byte();
+        let b = input::byte(&rt)?;
         if b == input::END {
-            return;
+            return Ok(());
         }
-        c = case(b, c);
+        c = case(&rt, b, c)?;
     }
+    Ok(())
 }

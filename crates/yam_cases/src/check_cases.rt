@@ -5,6 +5,7 @@ use crate::input::number;
 use crate::step_cases::{list, passed, place};
 use crate::word_cases::put;
 use certificate::Checked;
+use std::io;
 use words::Config;
 
 fn put_mark(to: &mut [u8], at: usize, value: u32) {
@@ -14,15 +15,15 @@ fn put_mark(to: &mut [u8], at: usize, value: u32) {
 }
 
 // A certificate: its length, and as many marks.
-fn marks(to: &mut [u8]) -> usize {
-    let n = number();
+fn marks(rt: &impl Input, to: &mut [u8]) -> io::Result<usize> {
+    let n = number(rt)?;
     let mut left = n;
     while 0 < left {
-        let value = number();
+        let value = number(rt)?;
         put_mark(to, passed(n, left), value);
         left -= 1;
     }
-    place(n)
+    Ok(place(n))
 }
 
 // A length, cut to the array that holds the list.
@@ -39,32 +40,32 @@ fn check_lent(c: Config, image: &[u32], words: usize, certificate: &[u8], bytes:
 }
 
 // An image and a certificate: prints document 01's number, the address and the rule that are named, and the level at address 0.
-pub fn check_case(c: Config) {
+pub fn check_case(rt: &(impl Input + Print), c: Config) -> io::Result<()> {
     let mut image = [0u32; 256];
-    let words = list(&mut image);
+    let words = list(rt, &mut image)?;
     let mut bytes = [0u8; 256];
-    let marked = marks(&mut bytes);
+    let marked = marks(rt, &mut bytes)?;
     let r = check_lent(c, &image, words, &bytes, marked);
-    io::write_all(1, b"check");
+    print!(rt; "check")?;
     match r {
         Checked::Passed(level) => {
-            put(0);
-            put(0);
-            put(0);
-            put(level);
+            put(rt, 0)?;
+            put(rt, 0)?;
+            put(rt, 0)?;
+            put(rt, level)?;
         }
         Checked::Unlawful => {
-            put(1);
+            put(rt, 1)?;
         }
         Checked::WrongLength => {
-            put(2);
+            put(rt, 2)?;
         }
         Checked::Broken(address, rule) => {
-            put(17);
-            put(address);
-            put(rule);
-            put(0);
+            put(rt, 17)?;
+            put(rt, address)?;
+            put(rt, rule)?;
+            put(rt, 0)?;
         }
     }
-    io::write_all(1, b"\n");
+    println!(rt)
 }

@@ -26,24 +26,27 @@ mod print;
 mod step_cases;
 mod word_cases;
 
+use std::io;
 use step_cases::Setting;
 use words::Config;
 
 // A case that needs a configuration alone.
-fn word_case(b: u32, c: Config) {
+fn word_case(rt: &(impl Input + Print), b: u32, c: Config) -> io::Result<()> {
     if b == 114 {
-        word_cases::read_case(c);
+        word_cases::read_case(rt, c)?;
     }
     if b == 119 {
-        word_cases::write_case(c);
+        word_cases::write_case(rt, c)?;
     }
     if b == 116 {
-        check_cases::check_case(c);
+        check_cases::check_case(rt, c)?;
     }
+    Ok(())
 }
 
 // The part of a state that the letter gives, and the setting with it.
 fn given(
+    rt: &impl Input,
     b: u32,
     s: Setting,
     image: &mut [u32; 256],
@@ -52,39 +55,40 @@ fn given(
     memory: &mut [u32; 2048],
     addresses: &mut [u32; 64],
     values: &mut [u32; 64],
-) -> Setting {
+) -> io::Result<Setting> {
     if b == 107 {
-        return s.configured(word_cases::config());
+        return Ok(s.configured(word_cases::config(rt)?));
     }
     if b == 109 {
-        return s.with_machine(step_cases::machine());
+        return Ok(s.with_machine(step_cases::machine(rt)?));
     }
     if b == 122 {
-        return s.with_machine(state::Machine::reset());
+        return Ok(s.with_machine(state::Machine::reset()));
     }
     if b == 105 {
-        return s.with_length(0, step_cases::list(image));
+        return Ok(s.with_length(0, step_cases::list(rt, image)?));
     }
     if b == 112 {
-        return s.with_length(1, step_cases::list(inputs));
+        return Ok(s.with_length(1, step_cases::list(rt, inputs)?));
     }
     if b == 103 {
-        return s.with_length(2, step_cases::cells(registers));
+        return Ok(s.with_length(2, step_cases::cells(rt, registers)?));
     }
     if b == 100 {
-        return s.with_length(3, step_cases::cells(memory));
+        return Ok(s.with_length(3, step_cases::cells(rt, memory)?));
     }
     if b == 97 {
-        return s.with_length(4, step_cases::list(addresses));
+        return Ok(s.with_length(4, step_cases::list(rt, addresses)?));
     }
     if b == 118 {
-        return s.with_length(5, step_cases::list(values));
+        return Ok(s.with_length(5, step_cases::list(rt, values)?));
     }
-    s
+    Ok(s)
 }
 
 // One case, and the setting of the next.
 fn case(
+    rt: &(impl Input + Print),
     b: u32,
     s: Setting,
     image: &mut [u32; 256],
@@ -93,24 +97,26 @@ fn case(
     memory: &mut [u32; 2048],
     addresses: &mut [u32; 64],
     values: &mut [u32; 64],
-) -> Setting {
+) -> io::Result<Setting> {
     if b == 35 {
-        input::echo_line();
-        return s;
+        input::echo_line(rt)?;
+        return Ok(s);
     }
-    let _ = input::byte();
+    let _ = input::byte(rt)?;
     let c = s.config;
-    word_case(b, c);
+    word_case(rt, b, c)?;
     if b == 115 {
-        return step_cases::step_case(s, image, inputs, registers, memory, addresses, values);
+        return step_cases::step_case(rt, s, image, inputs, registers, memory, addresses, values);
     }
     if b == 117 {
-        return step_cases::run_case(s, image, inputs, registers, memory, addresses, values);
+        return step_cases::run_case(rt, s, image, inputs, registers, memory, addresses, values);
     }
-    given(b, s, image, inputs, registers, memory, addresses, values)
+    given(
+        rt, b, s, image, inputs, registers, memory, addresses, values,
+    )
 }
 
-fn main() {
+fn main(rt: HostRuntime) -> io::Result<()> {
     let mut image = [0u32; 256];
     let mut inputs = [0u32; 64];
     let mut registers = [0u32; 1024];
@@ -121,11 +127,12 @@ fn main() {
     let mut left: u32 = 1000000;
     while 0 < left {
         left -= 1;
-        let b = input::byte();
+        let b = input::byte(&rt)?;
         if b == input::END {
-            return;
+            return Ok(());
         }
         s = case(
+            &rt,
             b,
             s,
             &mut image,
@@ -134,6 +141,7 @@ fn main() {
             &mut memory,
             &mut addresses,
             &mut values,
-        );
+        )?;
     }
+    Ok(())
 }

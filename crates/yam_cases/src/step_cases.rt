@@ -5,6 +5,7 @@ use crate::input::number;
 use crate::print;
 use machine::{Ran, Stepped};
 use state::{Core, Machine};
+use std::io;
 use words::Config;
 
 // What a call is given beside the lists, and how much of each list is lent: image, inputs, register memory, data memory, the log's addresses
@@ -86,51 +87,51 @@ pub fn passed(n: u32, left: u32) -> usize {
 }
 
 // A list: its length, and as many numbers.
-pub fn list(to: &mut [u32]) -> usize {
+pub fn list(rt: &impl Input, to: &mut [u32]) -> io::Result<usize> {
     clear(to);
-    let n = number();
+    let n = number(rt)?;
     let mut left = n;
     while 0 < left {
-        let value = number();
+        let value = number(rt)?;
         put(to, passed(n, left), value);
         left -= 1;
     }
-    place(n)
+    Ok(place(n))
 }
 
 // A memory: its length, a count, and as many pairs of cell and value.
-pub fn cells(to: &mut [u32]) -> usize {
+pub fn cells(rt: &impl Input, to: &mut [u32]) -> io::Result<usize> {
     clear(to);
-    let n = number();
-    let mut left = number();
+    let n = number(rt)?;
+    let mut left = number(rt)?;
     while 0 < left {
         left -= 1;
-        let at = number();
-        let value = number();
+        let at = number(rt)?;
+        let value = number(rt)?;
         put(to, place(at), value);
     }
-    place(n)
+    Ok(place(n))
 }
 
 // Each value in a variable: fields are taken in the order of the input.
-fn core() -> Core {
-    let pc = place(number());
-    let wp = place(number());
-    let rx = place(number());
-    let ry = place(number());
-    let loaded = number();
-    let n = wide(number());
-    let z = wide(number());
-    let spr7 = wide(number());
-    let depth = place(number());
-    let imask = wide(number());
-    let saved = wide(number());
-    let mode = wide(number());
-    let posted = number();
-    let port = wide(number());
-    let taken = place(number());
-    let logged = place(number());
-    Core {
+fn core(rt: &impl Input) -> io::Result<Core> {
+    let pc = place(number(rt)?);
+    let wp = place(number(rt)?);
+    let rx = place(number(rt)?);
+    let ry = place(number(rt)?);
+    let loaded = number(rt)?;
+    let n = wide(number(rt)?);
+    let z = wide(number(rt)?);
+    let spr7 = wide(number(rt)?);
+    let depth = place(number(rt)?);
+    let imask = wide(number(rt)?);
+    let saved = wide(number(rt)?);
+    let mode = wide(number(rt)?);
+    let posted = number(rt)?;
+    let port = wide(number(rt)?);
+    let taken = place(number(rt)?);
+    let logged = place(number(rt)?);
+    Ok(Core {
         pc,
         wp,
         rx,
@@ -147,14 +148,14 @@ fn core() -> Core {
         port,
         taken,
         logged,
-    }
+    })
 }
 
-pub fn machine() -> Machine {
-    let core = core();
+pub fn machine(rt: &impl Input) -> io::Result<Machine> {
+    let core = core(rt)?;
     let mut stack = [0u32; 63];
-    let _ = list(&mut stack);
-    Machine { core, stack }
+    let _ = list(rt, &mut stack)?;
+    Ok(Machine { core, stack })
 }
 
 // A step on the parts of the lists that are lent.
@@ -219,6 +220,7 @@ fn run_lent(
 }
 
 pub fn step_case(
+    rt: &impl Print,
     s: Setting,
     image: &[u32; 256],
     inputs: &[u32; 64],
@@ -226,24 +228,25 @@ pub fn step_case(
     memory: &mut [u32; 2048],
     addresses: &mut [u32; 64],
     values: &mut [u32; 64],
-) -> Setting {
+) -> io::Result<Setting> {
     let old_registers = *registers;
     let old_memory = *memory;
     let old_addresses = *addresses;
     let old_values = *values;
     let r = step_lent(s, image, inputs, registers, memory, addresses, values);
     let after = r.machine;
-    print::put_step(r.number, r.cycles);
-    print::put_machine(after);
-    print::put_changes(b"; registers", &old_registers, registers);
-    print::put_changes(b"; data", &old_memory, memory);
-    print::put_changes(b"; addresses", &old_addresses, addresses);
-    print::put_changes(b"; values", &old_values, values);
-    io::write_all(1, b"\n");
-    s.with_machine(after)
+    print::put_step(rt, r.number, r.cycles)?;
+    print::put_machine(rt, after)?;
+    print::put_changes(rt, b"; registers", &old_registers, registers)?;
+    print::put_changes(rt, b"; data", &old_memory, memory)?;
+    print::put_changes(rt, b"; addresses", &old_addresses, addresses)?;
+    print::put_changes(rt, b"; values", &old_values, values)?;
+    println!(rt)?;
+    Ok(s.with_machine(after))
 }
 
 pub fn run_case(
+    rt: &(impl Input + Print),
     s: Setting,
     image: &[u32; 256],
     inputs: &[u32; 64],
@@ -251,8 +254,8 @@ pub fn run_case(
     memory: &mut [u32; 2048],
     addresses: &mut [u32; 64],
     values: &mut [u32; 64],
-) -> Setting {
-    let budget = wide(number());
+) -> io::Result<Setting> {
+    let budget = wide(number(rt)?);
     let old_registers = *registers;
     let old_memory = *memory;
     let old_addresses = *addresses;
@@ -261,12 +264,12 @@ pub fn run_case(
         s, image, inputs, registers, memory, addresses, values, budget,
     );
     let after = r.machine;
-    print::put_run(r.number, r.steps, r.cycles);
-    print::put_machine(after);
-    print::put_changes(b"; registers", &old_registers, registers);
-    print::put_changes(b"; data", &old_memory, memory);
-    print::put_changes(b"; addresses", &old_addresses, addresses);
-    print::put_changes(b"; values", &old_values, values);
-    io::write_all(1, b"\n");
-    s.with_machine(after)
+    print::put_run(rt, r.number, r.steps, r.cycles)?;
+    print::put_machine(rt, after)?;
+    print::put_changes(rt, b"; registers", &old_registers, registers)?;
+    print::put_changes(rt, b"; data", &old_memory, memory)?;
+    print::put_changes(rt, b"; addresses", &old_addresses, addresses)?;
+    print::put_changes(rt, b"; values", &old_values, values)?;
+    println!(rt)?;
+    Ok(s.with_machine(after))
 }

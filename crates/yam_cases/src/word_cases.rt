@@ -1,5 +1,6 @@
 // Cases of reading and writing words.
 use crate::input::number;
+use std::io;
 use words::{Config, Instruction, Reading, Writing};
 
 pub fn no_config() -> Config {
@@ -27,27 +28,27 @@ pub fn no_config() -> Config {
 }
 
 // Each value in a variable: fields are taken in the order of the input.
-pub fn config() -> Config {
-    let imwidth = number();
-    let imsize = number();
-    let regwidth = number();
-    let regsize = number();
-    let rmsize = number();
-    let pcstack = number();
-    let dmsize = number();
-    let dmpipe = number();
-    let alulevel = number();
-    let alumult = number();
-    let aluspr = number();
-    let iopif = number();
-    let ioprmw = number();
-    let yamclk = number();
-    let yamsreg3 = number();
-    let alu3op = number();
-    let irqif = number();
-    let copmsize = number();
-    let yamdbg = number();
-    Config {
+pub fn config(rt: &impl Input) -> io::Result<Config> {
+    let imwidth = number(rt)?;
+    let imsize = number(rt)?;
+    let regwidth = number(rt)?;
+    let regsize = number(rt)?;
+    let rmsize = number(rt)?;
+    let pcstack = number(rt)?;
+    let dmsize = number(rt)?;
+    let dmpipe = number(rt)?;
+    let alulevel = number(rt)?;
+    let alumult = number(rt)?;
+    let aluspr = number(rt)?;
+    let iopif = number(rt)?;
+    let ioprmw = number(rt)?;
+    let yamclk = number(rt)?;
+    let yamsreg3 = number(rt)?;
+    let alu3op = number(rt)?;
+    let irqif = number(rt)?;
+    let copmsize = number(rt)?;
+    let yamdbg = number(rt)?;
+    Ok(Config {
         imwidth,
         imsize,
         regwidth,
@@ -67,47 +68,45 @@ pub fn config() -> Config {
         irqif,
         copmsize,
         yamdbg,
-    }
+    })
 }
 
-pub fn put(n: u32) {
-    io::write_all(1, b" ");
-    io::print_hex(1, n as u64, 1);
+pub fn put(rt: &impl Print, n: u32) -> io::Result<()> {
+    print!(rt; " {n:x}")
 }
 
-fn put_parts(i: Instruction) {
-    put(i.row);
-    put(i.flag);
-    put(i.destination);
-    put(i.source);
-    put(i.number);
-    put(i.value);
+fn put_parts(rt: &impl Print, i: Instruction) -> io::Result<()> {
+    put(rt, i.row)?;
+    put(rt, i.flag)?;
+    put(rt, i.destination)?;
+    put(rt, i.source)?;
+    put(rt, i.number)?;
+    put(rt, i.value)
 }
 
-pub fn read_case(c: Config) {
-    let w = number();
-    io::write_all(1, b"read ");
-    io::print_hex(1, w as u64, 8);
+pub fn read_case(rt: &(impl Input + Print), c: Config) -> io::Result<()> {
+    let w = number(rt)?;
+    print!(rt; "read {w:08x}")?;
     let r = words::read_word(c, w);
     match r {
         Reading::Decoded(i) => {
-            put(0);
-            put_parts(i);
+            put(rt, 0)?;
+            put_parts(rt, i)?;
         }
         Reading::Refused(x) => {
-            put(x.number());
+            put(rt, x.number())?;
         }
     }
-    io::write_all(1, b"\n");
+    println!(rt)
 }
 
-pub fn write_case(c: Config) {
-    let row = number();
-    let flag = number();
-    let destination = number();
-    let source = number();
-    let n = number();
-    let value = number();
+pub fn write_case(rt: &(impl Input + Print), c: Config) -> io::Result<()> {
+    let row = number(rt)?;
+    let flag = number(rt)?;
+    let destination = number(rt)?;
+    let source = number(rt)?;
+    let n = number(rt)?;
+    let value = number(rt)?;
     let i = Instruction {
         row,
         flag,
@@ -116,19 +115,18 @@ pub fn write_case(c: Config) {
         number: n,
         value,
     };
-    io::write_all(1, b"write");
-    put_parts(i);
-    io::write_all(1, b":");
+    print!(rt; "write")?;
+    put_parts(rt, i)?;
+    print!(rt; ":")?;
     let r = words::write_word(c, i);
     match r {
         Writing::Encoded(w) => {
-            put(0);
-            io::write_all(1, b" ");
-            io::print_hex(1, w as u64, 8);
+            put(rt, 0)?;
+            print!(rt; " {w:08x}")?;
         }
         Writing::Refused(x) => {
-            put(x.number());
+            put(rt, x.number())?;
         }
     }
-    io::write_all(1, b"\n");
+    println!(rt)
 }
