@@ -5,11 +5,13 @@
 #![tactic(auto)]
 
 ghost use Rattle.std.specs.Prelude.{◌≡◌, ◌≤◌};
-ghost use Rattle.io.specs.Counts.{IsPrefixLen};
+ghost use Rattle.files.specs.Counts.{IsPrefixLen};
 ghost use Rattle.yam_asm.specs.Making.{made, made_of};
 
 use assembler::Assembled;
-use files::{read_all, read_file};
+use files::{NAME_BYTES, argument, argument_count, read_all, read_file};
+use std::io::{Error, Read};
+use std::rt::Files;
 use words::Config;
 
 const WORDS: usize = 8192;
@@ -18,18 +20,19 @@ const FILE_BYTES: usize = 34304;
 
 const SOURCE_BYTES: usize = 1048576;
 
-fn unwritten() {
-    os::fail(b"standard output");
+fn unwritten(rt: &impl Eprint, why: Error) {
+    files::fail(rt, "standard output", why);
 }
 
 // The line of a refusal; line 0 is none.
-fn refused(number: u32, line: usize) {
-    let mut written = io::write_all(1, b"refused ") & io::print_decimal(1, number as u64);
-    if line != 0 {
-        written = written & io::write_all(1, b" line ") & io::print_decimal(1, line as u64);
-    }
-    if !(written & io::write_all(1, b"\n")) {
-        unwritten();
+fn refused(rt: &(impl Print + Eprint), number: u32, line: usize) {
+    let written = if line != 0 {
+        println!(rt; "refused {number} line {line}")
+    } else {
+        println!(rt; "refused {number}")
+    };
+    if let Err(why) = written {
+        unwritten(rt, why);
     }
 }
 
@@ -65,71 +68,82 @@ fn assemble_image(c: Config, source: &[u8], image: &mut [u32], file: &mut [u8]) 
 }
 
 // Reads the source and assembles it; writes the image file, or the line of the refusal.
-fn assemble_source(c: Config, source: &mut [u8], image: &mut [u32], file: &mut [u8]) {
-    let input = read_all(0, source);
+fn assemble_source(
+    rt: &(impl Print + Eprint),
+    from: &mut impl Read,
+    c: Config,
+    source: &mut [u8],
+    image: &mut [u32],
+    file: &mut [u8],
+) {
+    let input = read_all(rt, "standard input", from, source);
     if input.failed {
-        os::fail(b"standard input");
         return;
     }
     let bytes = input.bytes;
     if SOURCE_BYTES < bytes {
-        refused(2, 0);
+        refused(rt, 2, 0);
         return;
     }
     let size = size_of(c, image);
     let r = assemble_image(c, &source[..bytes], &mut image[..size], file);
     if r.number != 0 {
-        refused(r.number, r.line);
+        refused(rt, r.number, r.line);
         return;
     }
-    if !io::write_all(1, file) {
-        unwritten();
+    if let Err(why) = rt.write_all(file) {
+        unwritten(rt, why);
     }
 }
 
 // Takes the configuration from the named file. `loaded` takes the words of that file, which are not used.
 fn assemble(
+    rt: &(impl Files + Print + Eprint),
+    from: &mut impl Read,
     path: &[u8],
     file: &mut [u8],
     loaded: &mut [u32],
     source: &mut [u8; SOURCE_BYTES + 1],
     image: &mut [u32],
 ) {
-    let input = read_file(path, file);
+    let input = read_file(rt, path, file);
     if input.failed {
         return;
     }
     let bytes = input.bytes;
     if FILE_BYTES < bytes {
-        refused(2, 0);
+        refused(rt, 2, 0);
         return;
     }
     let l = image::load(&file[..bytes], loaded);
     let number = l.number;
     if number != 0 {
-        refused(number, 0);
+        refused(rt, number, 0);
         return;
     }
     let c = l.config;
-    assemble_source(c, source, image, &mut file[..bytes]);
+    assemble_source(rt, from, c, source, image, &mut file[..bytes]);
 }
 
-fn main() {
-    if os::arg_count() != 2 {
-        io::write_all(2, b"usage: yam_asm CONFIG.img <SOURCE >OUT.img\n");
+fn main(rt: HostRuntime) {
+    if argument_count(&rt) != 2 {
+        let _ = eprintln!(rt; "usage: yam_asm CONFIG.img <SOURCE >OUT.img");
         return;
     }
-    let mut path = io::buffer();
-    let length = os::arg(1, &mut path);
-    if os::errno() != 0 {
-        os::fail(b"yam_asm: the argument");
+    let mut path = [0u8; NAME_BYTES];
+    let name = argument(&rt, 1, &mut path);
+    if name.failed {
+        let _ = eprintln!(rt; "yam_asm: the argument is too long");
         return;
     }
+    let length = name.bytes;
     let mut file = [0u8; FILE_BYTES + 1];
     let mut loaded = [0u32; WORDS];
     let mut source = [0u8; SOURCE_BYTES + 1];
     let mut image = [0u32; WORDS];
     assemble(
+        &rt,
+        &mut rt.stdin(),
         &path[..length],
         &mut file,
         &mut loaded,

@@ -1,12 +1,11 @@
 -- From what the code puts to the verdict. Assumes nothing.
 use Prim.Native.Nat.{ℕ}
-use mathlib.Core.Path.{◌≡◌, refl, sym, ap, ◌∙◌}
+use mathlib.Core.Path.{◌≡◌}
 use mathlib.Core.List.{List}
 use borrow.Author.Tests.{eq-eqb, ne_eqb}
 use lib.ListN.{take}
 use Rattle.laws.specs.Choice.{pick}
 use Rattle.words.specs.declared.Config.{Config}
-use Rattle.image.specs.declared.Loaded.{Loaded}
 use Rattle.image.specs.Loading.{Load}
 use Rattle.certificate.specs.declared.Checked.{Checked}
 use Rattle.certificate.specs.declared.Checked.TheVariants as checked
@@ -14,8 +13,7 @@ use Rattle.certificate.specs.Answers.{answer_of}
 use Rattle.rules.specs.Check.{Answer, check_of}
 use Rattle.printing.specs.Numerals.{refusal_line}
 use Rattle.printing.specs.Puts.{Puts}
-use Rattle.printing.proofs.Puts.{put_as}
-use Rattle.opening.specs.Opening.{opened, open_of, Counted}
+use Rattle.opening.specs.Opening.{open_of, Counted}
 use Rattle.yam_check.specs.Verdict.{passes_line, broken_lines, verdict_text, verdict_of}
 
 module _ {p q : List ℕ} {r : ℕ} (c : Config) (image : List ℕ) (x : Checked) where

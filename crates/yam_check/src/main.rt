@@ -8,7 +8,7 @@ ghost use Rattle.printing.specs.Puts.{Puts};
 ghost use Rattle.yam_check.specs.Verdict.{passes_line, broken_lines, verdict_text, verdict_of};
 
 use certificate::Checked;
-use files::{read_all, read_file};
+use files::{NAME_BYTES, argument, argument_count, read_all, read_file};
 use printing::{put_bytes, put_decimal, put_entry, put_hex, put_refusal};
 use words::Config;
 
@@ -68,26 +68,26 @@ fn verdict(file: &[u8], certificate: &[u8], image: &mut [u32], page: &mut [u8]) 
     put_verdict(c, &image[..size], r, page)
 }
 
-fn main() {
-    if os::arg_count() != 2 {
-        io::write_all(2, b"usage: yam_check CERTIFICATE <IMAGE\n");
+fn main(rt: HostRuntime) {
+    if argument_count(&rt) != 2 {
+        let _ = eprintln!(rt; "usage: yam_check CERTIFICATE <IMAGE");
         return;
     }
-    let mut path = io::buffer();
-    let length = os::arg(1, &mut path);
-    if os::errno() != 0 {
-        os::fail(b"yam_check: the argument");
+    let mut path = [0u8; NAME_BYTES];
+    let name = argument(&rt, 1, &mut path);
+    if name.failed {
+        let _ = eprintln!(rt; "yam_check: the argument is too long");
         return;
     }
+    let length = name.bytes;
     let mut file = [0u8; FILE_BYTES + 1];
-    let input = read_all(0, &mut file);
+    let input = read_all(&rt, "standard input", &mut rt.stdin(), &mut file);
     if input.failed {
-        os::fail(b"standard input");
         return;
     }
     let bytes = input.bytes;
     let mut certificate = [0u8; WORDS + 1];
-    let marks = read_file(&path[..length], &mut certificate);
+    let marks = read_file(&rt, &path[..length], &mut certificate);
     if marks.failed {
         return;
     }
@@ -95,5 +95,5 @@ fn main() {
     let mut image = [0u32; WORDS];
     let mut page = [0u8; PAGE_BYTES];
     let n = verdict(&file[..bytes], &certificate[..used], &mut image, &mut page);
-    files::print(&page, n);
+    files::print(&rt, &page, n);
 }

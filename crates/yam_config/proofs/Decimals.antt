@@ -5,14 +5,14 @@ use mathlib.Core.Bool.{Bool, true, false, ◌&&◌}
 use mathlib.Core.List.{List, [], ◌∷◌, ◌++◌, append_assoc, append-nil}
 use native.Mathlib.Nat.{pow-suc, mod-lt}
 use native.Mathlib.Omega.{arith}
-use borrow.Author.Tests.{lt-ltb, le-ltb, le-leb, ne_eqb, ltb-true, ltb-false, eqb-true}
+use borrow.Author.Tests.{lt-ltb, le-ltb, le-leb, ne_eqb, ltb-true, ltb-false}
 use lib.Dec.{T, eqb, ltb, eqb→eq}
 use lib.ListN.{length, length-append}
 use Rattle.laws.specs.Choice.{pick, is_true}
 use Rattle.laws.specs.Lists.{all}
 use Rattle.laws.specs.Table.{every, at_every}
-use Rattle.io.specs.Digits.{hex_digit_ascii, last_digits}
-use Rattle.parsing.specs.Decimals.{is_digit, Number, number, none, decimal_from, decimal_of, most_digits, most_value, at_most, value_of}
+use Rattle.printing.specs.Digits.{hex_digit_ascii, last_digits}
+use Rattle.parsing.specs.Decimals.{is_digit, number, decimal_from, decimal_of, most_digits, most_value, at_most, value_of}
 use Rattle.parsing.proofs.Printed.{filled}
 use Rattle.printing.specs.Numerals.{places_from, decimal}
 

@@ -1,12 +1,12 @@
 -- The lines of generics and of words, in the shape that the code leaves. Assumes nothing.
 use Prim.Native.Nat.{ℕ, zero, suc, ◌+◌, ◌<◌, ◌≤◌}
 use mathlib.Core.Path.{◌≡◌, refl, sym, ap, ◌∙◌}
-use mathlib.Core.Bool.{Bool, true, false, not}
+use mathlib.Core.Bool.{Bool, true, false}
 use mathlib.Core.List.{List, [], ◌∷◌, ◌++◌, append_assoc}
 use native.Mathlib.Nat.{add-zero, zero-add, suc-add}
 use native.Mathlib.Numerals.{add-one}
 use native.Mathlib.Omega.{arith}
-use borrow.Author.Tests.{eq-eqb, ne_eqb, not-true, not-false}
+use borrow.Author.Tests.{eq-eqb, ne_eqb}
 use lib.ListN.{length, get_or, take}
 use lib.Seq.{take-suc, take_all}
 use Rattle.laws.specs.Choice.{pick}
@@ -74,11 +74,11 @@ module _ {p q : List ℕ} {r : ℕ} (asked : Bool) (f image : List ℕ) (l : Loa
   unfolding printed_of pick
   refused_put n h = rw (← e, ne_eqb l.number 0 n) h
 
-  pub config_put : l.number ≡ 0 → not asked ≡ true → Puts p 0 (generics_text l.config) r q → Puts p 0 (printed_of asked f image) r q
+  pub config_put : l.number ≡ 0 → asked ≡ false → Puts p 0 (generics_text l.config) r q → Puts p 0 (printed_of asked f image) r q
   unfolding printed_of pick
-  config_put z a h = rw (← e, eq-eqb l.number 0 z, not-true asked a) h
+  config_put z a h = rw (← e, eq-eqb l.number 0 z, a) h
 
-  pub words_put : l.number ≡ 0 → not asked ≡ false → (n : ℕ) → Counted l.config.imsize l.image n → Puts p 0 (printed (take n l.image)) r q →
+  pub words_put : l.number ≡ 0 → asked ≡ true → (n : ℕ) → Counted l.config.imsize l.image n → Puts p 0 (printed (take n l.image)) r q →
       Puts p 0 (printed_of asked f image) r q
   unfolding printed_of pick
-  words_put z a n k h = rw (← e, eq-eqb l.number 0 z, not-false asked a, ← k.same) h
+  words_put z a n k h = rw (← e, eq-eqb l.number 0 z, a, ← k.same) h

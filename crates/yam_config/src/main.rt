@@ -7,8 +7,9 @@ ghost use Rattle.printing.specs.Puts.{Puts};
 ghost use Rattle.yam_config.specs.Claims.{ReadBack};
 ghost use Rattle.yam_config.specs.Generics.{generic_line, lines_from, generics_text, printed_of};
 
-use files::read_all;
+use files::{NAME_BYTES, argument, argument_count, read_all};
 use printing::{put_bytes, put_decimal, put_hex, put_refusal};
+use std::io::Read;
 use words::Config;
 
 const WORDS: usize = 8192;
@@ -110,38 +111,39 @@ fn is_words(a: &[u8]) -> bool {
     (a[0] == b'w') & (a[1] == b'o') & (a[2] == b'r') & (a[3] == b'd') & (a[4] == b's')
 }
 
-fn usage() {
-    io::write_all(2, b"usage: yam_config [words] <IMAGE\n");
+fn usage(rt: &impl Eprint) {
+    let _ = eprintln!(rt; "usage: yam_config [words] <IMAGE");
 }
 
-fn print(asked: bool) {
+fn print(rt: &(impl Print + Eprint), from: &mut impl Read, asked: bool) {
     let mut file = [0u8; FILE_BYTES + 1];
-    let input = read_all(0, &mut file);
+    let input = read_all(rt, "standard input", from, &mut file);
     if input.failed {
-        os::fail(b"standard input");
         return;
     }
     let bytes = input.bytes;
     let mut image = [0u32; WORDS];
     let mut page = [0u8; PAGE_BYTES];
     let n = put_file(&file[..bytes], asked, &mut image, &mut page);
-    files::print(&page, n);
+    files::print(rt, &page, n);
 }
 
-fn main() {
-    if os::arg_count() == 1 {
-        print(false);
+fn main(rt: HostRuntime) {
+    let arguments = argument_count(&rt);
+    if arguments == 1 {
+        print(&rt, &mut rt.stdin(), false);
         return;
     }
-    let mut argument = io::buffer();
-    let length = os::arg(1, &mut argument);
-    if os::errno() != 0 {
-        os::fail(b"yam_config: the argument");
+    let mut word = [0u8; NAME_BYTES];
+    let first = argument(&rt, 1, &mut word);
+    if first.failed {
+        let _ = eprintln!(rt; "yam_config: the argument is missing or too long");
         return;
     }
-    if (os::arg_count() != 2) | !is_words(&argument[..length]) {
-        usage();
+    let length = first.bytes;
+    if (arguments != 2) | !is_words(&word[..length]) {
+        usage(&rt);
         return;
     }
-    print(true);
+    print(&rt, &mut rt.stdin(), true);
 }

@@ -14,10 +14,9 @@ use Rattle.words.specs.declared.Config.{Config}
 use Rattle.words.specs.Configs.{lawful}
 use Rattle.image.specs.declared.Loaded.{Loaded}
 use Rattle.text.specs.declared.Listed.{Listed}
-use Rattle.text.specs.Texts.{text_limit}
-use Rattle.text.specs.Pages.{written, Wrote}
+use Rattle.text.specs.Pages.{written}
 use Rattle.text.specs.Lines.{Listing}
-use Rattle.text.specs.Claims.{lines_to_end, printed_from, line_frame, Lists}
+use Rattle.text.specs.Claims.{lines_to_end, printed_from, Lists}
 use Rattle.text.proofs.Written.{between, beyond_stays, length_written}
 use Rattle.files.proofs.Counts.{counts}
 use Rattle.yam_list.specs.declared.Printed.{Printed}
@@ -123,11 +122,3 @@ run_joined come end next (t ∷ u ∷ ts) h =
 abbrev pub left : ℕ → ℕ → Bool → ℕ
 left end next true = suc (end - next)
 left end next false = 0
-
-pub falls : (come : ℕ → List ℕ) (end next : ℕ) (more : Bool) (page : List ℕ) (r : Printed) (after : List ℕ) → more ≡ true → text_limit + line_frame ≤ length page →
-    Prints come end next page r after → left end r.next r.more < left end next more
-falls come end next more page r after m h p = rw m (go r.more refl)
-  where
-    go : (b : Bool) → r.more ≡ b → left end r.next b < left end next true
-    go true e = let f = p.forward h e in omega (arith, f.0, f.1)
-    go false e = omega arith

@@ -3,9 +3,9 @@ use Rattle.std.specs.Prelude.{ℕ, suc, ◌+◌, ◌≤◌, ◌<◌, ◌≡◌, 
 use Rattle.laws.specs.Choice.{pick}
 use Rattle.laws.specs.Test.{Holds}
 use Rattle.words.specs.Configs.{lawful}
+use Rattle.files.specs.Counts.{IsPrefixLen}
 use Rattle.image.specs.declared.Loaded.{Loaded}
 use Rattle.image.specs.Loading.{load_of}
-use Rattle.io.specs.Counts.{IsPrefixLen}
 use Rattle.text.specs.Texts.{text_limit}
 use Rattle.text.specs.Claims.{lines_to_end, line_frame}
 use Rattle.yam_list.specs.declared.Printed.{Printed}

@@ -60,8 +60,7 @@ fn print_refusal(n: u32, next: usize, page: &mut [u8]) -> Printed
 fn list_page(c: Config, image: &[u32], first: usize, page: &mut [u8]) -> Listed
     ensures { Lists c image.now first page.old 0 result page.new }
 {
-    let p = text::pages::list_on(c, image, text::pages::new(page, 0, first));
-    text::pages::answer(p)
+    text::list(c, image, first, page, 0)
 }
 
 // Prints lines of a listing on a page.
@@ -92,7 +91,7 @@ fn print_page(l: Loaded, image: &[u32], next: usize, page: &mut [u8]) -> Printed
 }
 
 // Writes page after page, until no more is to come.
-fn print_all(l: Loaded, image: &[u32])
+fn print_all(rt: &(impl Print + Eprint), l: Loaded, image: &[u32])
     requires { Ready l image.now }
 {
     let mut page = [0u8; PAGE_BYTES];
@@ -101,8 +100,8 @@ fn print_all(l: Loaded, image: &[u32])
     while more {
         let r = print_page(l, image, next, &mut page);
         let bytes = r.bytes;
-        if !io::write_all(1, &page[..bytes]) {
-            os::fail(b"standard output");
+        if let Err(why) = rt.write_all(&page[..bytes]) {
+            files::fail(rt, "standard output", why);
             return;
         }
         next = r.next;
@@ -110,15 +109,14 @@ fn print_all(l: Loaded, image: &[u32])
     }
 }
 
-fn main() {
+fn main(rt: HostRuntime) {
     let mut file = [0u8; FILE_BYTES + 1];
-    let input = files::read_all(0, &mut file);
+    let input = files::read_all(&rt, "standard input", &mut rt.stdin(), &mut file);
     if input.failed {
-        os::fail(b"standard input");
         return;
     }
     let bytes = input.bytes;
     let mut image = [0u32; WORDS];
     let l = load_file(&file[..bytes], &mut image);
-    print_all(l, &image);
+    print_all(&rt, l, &image);
 }

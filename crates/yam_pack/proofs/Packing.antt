@@ -1,11 +1,11 @@
 -- What comes of the two texts, by the answers of the calls. Assumes nothing.
-use Prim.Native.Nat.{ℕ, ◌+◌, ◌*◌, ◌<◌, ◌≤◌}
+use Prim.Native.Nat.{ℕ, ◌+◌, ◌<◌, ◌≤◌}
 use mathlib.Core.Path.{◌≡◌, refl, sym, ap, ◌∙◌}
 use mathlib.Core.Bool.{Bool, true, false}
 use mathlib.Core.List.{List, ◌++◌}
 use native.Mathlib.Omega.{arith}
 use native.Mathlib.Nat.{zero-add}
-use borrow.Author.Tests.{eq-eqb, ne_eqb, le-leb, lt-leb, eqb-true, eqb-false}
+use borrow.Author.Tests.{ne_eqb, le-leb, lt-leb, eqb-true, eqb-false}
 use lib.Dec.{eqb, leb}
 use lib.ListN.{length, take, drop, length-append}
 use lib.Seq.{sets, sets-eq, length-sets, take_at, length-take-le}
@@ -21,7 +21,7 @@ use Rattle.image.proofs.storing.Laws.{length_bytes, length_block, length_blocks}
 use Rattle.parsing.specs.declared.Generics.{Generics}
 use Rattle.parsing.specs.declared.HexWords.{HexWords}
 use Rattle.parsing.specs.Words.{Reading, good, bad, words_in, Call, call, call_of}
-use Rattle.parsing.specs.Generics.{Gathered, all, malformed, gathered_in, config_of, generics_of}
+use Rattle.parsing.specs.Generics.{Gathered, all, malformed, gathered_in, generics_of}
 use Rattle.parsing.specs.Claims.{LineFromOne, EntryFromOne, ReadsWords, NamesGenerics}
 use Rattle.text.specs.Pages.{written}
 use Rattle.printing.specs.Puts.{Puts}

@@ -10,8 +10,10 @@ ghost use Rattle.printing.specs.Puts.{Puts};
 ghost use Rattle.yam_pack.specs.Packing.{pack_tests, image_of, packed_of, malformed_line, printed_of};
 ghost use Rattle.yam_pack.specs.Claims.{Packs, Follows};
 
-use files::{read_all, read_file};
+use files::{NAME_BYTES, argument, argument_count, read_all, read_file};
 use printing::{put_bytes, put_decimal, put_refusal};
+use std::io::Read;
+use std::rt::Files;
 use words::Config;
 
 const CONFIG_BYTES: usize = 4096;
@@ -138,54 +140,59 @@ fn put_packed(
 
 // Reads WORDS, packs the two texts and prints what comes of them.
 fn pack_file(
+    rt: &(impl Files + Print + Eprint),
     path: &[u8],
     config: &[u8],
     text: &mut [u8],
     words: &mut [u32; WORDS],
     page: &mut [u8; FILE_BYTES],
 ) {
-    let input = read_file(path, text);
+    let input = read_file(rt, path, text);
     if input.failed {
         return;
     }
     let n = input.bytes;
     let bytes = put_packed(config, &text[..n], words, page);
-    files::print(page, bytes);
+    files::print(rt, page, bytes);
 }
 
 // Reads CONFIG first.
 fn pack_named(
+    rt: &(impl Files + Print + Eprint),
+    from: &mut impl Read,
     path: &[u8],
     config: &mut [u8],
     text: &mut [u8; TEXT_BYTES + 1],
     words: &mut [u32; WORDS],
     page: &mut [u8; FILE_BYTES],
 ) {
-    let input = read_all(0, config);
+    let input = read_all(rt, "standard input", from, config);
     if input.failed {
-        os::fail(b"standard input");
         return;
     }
     let n = input.bytes;
-    pack_file(path, &config[..n], text, words, page);
+    pack_file(rt, path, &config[..n], text, words, page);
 }
 
-fn main() {
-    if os::arg_count() != 2 {
-        io::write_all(2, b"usage: yam_pack WORDS <CONFIG >OUT.img\n");
+fn main(rt: HostRuntime) {
+    if argument_count(&rt) != 2 {
+        let _ = eprintln!(rt; "usage: yam_pack WORDS <CONFIG >OUT.img");
         return;
     }
-    let mut path = io::buffer();
-    let length = os::arg(1, &mut path);
-    if os::errno() != 0 {
-        os::fail(b"yam_pack: the argument");
+    let mut path = [0u8; NAME_BYTES];
+    let name = argument(&rt, 1, &mut path);
+    if name.failed {
+        let _ = eprintln!(rt; "yam_pack: the argument is too long");
         return;
     }
+    let length = name.bytes;
     let mut config = [0u8; CONFIG_BYTES + 1];
     let mut text = [0u8; TEXT_BYTES + 1];
     let mut words = [0u32; WORDS];
     let mut page = [0u8; FILE_BYTES];
     pack_named(
+        &rt,
+        &mut rt.stdin(),
         &path[..length],
         &mut config,
         &mut text,

@@ -1,5 +1,5 @@
 -- From what the code puts to what is printed of a run and of a step. Assumes nothing.
-use Rattle.std.proofs.Common.{◌≡◌, ℕ, suc, ◌+◌, ◌%◌, ◌^◌, ◌<◌, ◌≤◌, List, [], ◌∷◌, ◌++◌, length, get_or, take, set, sym, refl, ap, ◌∙◌, subst, add-one, arith, length-take-le, take_all, take-suc, take-suc-set, eq-eqb, ne_eqb}
+use Rattle.std.proofs.Common.{◌≡◌, ℕ, ◌+◌, ◌%◌, ◌^◌, List, [], sym, ap, ◌∙◌, subst, eq-eqb, ne_eqb}
 use Rattle.laws.specs.Choice.{pick}
 use Rattle.words.specs.declared.Config.{Config}
 use Rattle.state.specs.declared.Machine.{Machine}
@@ -24,15 +24,6 @@ module _ {p q : List ℕ} {r : ℕ} (c : Config) (e : End) where
   unfolding end_text pick
   report_put n h = rw (ne_eqb e.number 16 n) h
 
--- cells copied one by one
-pub copied : (to from : List ℕ) (i : ℕ) → i < length to → length to ≡ length from → take i to ≡ take i from →
-    take (i + 1) (set to i (get_or from i 0)) ≡ take (i + 1) from
-copied to from i h l e =
-    rw add-one (take-suc-set to i (get_or from i 0) h ∙ ap (λ (z : List ℕ). z ++ (get_or from i 0 ∷ [])) e ∙ sym (take-suc from i 0 (omega arith)))
-
-pub all_copied : (to from : List ℕ) (i : ℕ) → length to ≤ i → length to ≡ length from → take i to ≡ take i from → to ≡ from
-all_copied to from i h l e = sym (take_all i to h) ∙ e ∙ take_all i from (omega arith)
-
 -- a run's answer is the definition's, and the memory is not printed
 pub run_put : {p q : List ℕ} {n : ℕ} (c : Config) (r : Ran) (registers memory addresses values : List ℕ) (m : Machine) (f : Machine → End) → m ≡ reset_machine →
     ran_end r registers memory addresses values ≡ f m → Puts p 0 (end_text c (ran_end r registers [] addresses values)) n q → Puts p 0 (end_text c (f reset_machine)) n q
@@ -51,11 +42,3 @@ pub trace_put : {p q : List ℕ} {r : ℕ} (c : Config) (image inputs : List ℕ
     Puts p 0 (line_of c image step cycles s (step_of (env c image inputs) s)) r q
 trace_put {p} {q} {r} c image inputs s step cycles o t oldr oldm e u v w h =
     subst (λ (z : Outcome). Puts p 0 (line_of c image step cycles s z) r q) e (rw (← u, ← v, ← w) h)
-
--- as many cells of two lists of one length
-
-pub prefix_length : (n : ℕ) (xs ys : List ℕ) → length ys ≡ length xs → n ≤ length xs → n ≡ length (take n ys)
-prefix_length n xs ys e h = sym (length-take-le n ys (omega arith))
-
-pub prefix_lengths : (n : ℕ) (xs ys : List ℕ) → length ys ≡ length xs → n ≤ length xs → length (take n ys) ≡ length (take n xs)
-prefix_lengths n xs ys e h = sym (prefix_length n xs ys e h) ∙ sym (length-take-le n xs h)

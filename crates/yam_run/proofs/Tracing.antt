@@ -10,11 +10,10 @@ use Rattle.state.specs.Step.{Outcome, step_of}
 use Rattle.state.proofs.Calls.{run_by_steps}
 use Rattle.state.proofs.StaysValid.{step_valid}
 use Rattle.state.proofs.Unchanged.{refused_stays}
-use Rattle.text.specs.Pages.{written}
 use Rattle.text.proofs.Written.{between}
 use Rattle.printing.specs.Puts.{Puts}
-use Rattle.yam_run.specs.Running.{line_of, Traces}
-use Rattle.yam_run.specs.Tracing.{report_in, trace_text, Turn, Turns, turns_text, TracesJoin, trace_lines, TraceAsRun}
+use Rattle.yam_run.specs.Running.{line_of}
+use Rattle.yam_run.specs.Tracing.{report_in, trace_text, turns_text, TracesJoin, trace_lines, TraceAsRun}
 
 -- bytes that had room stand at the page's start
 put_whole : {p q : List ℕ} {r : ℕ} (t : List ℕ) → Puts p 0 t r q → r ≤ length p → take r q ≡ t

@@ -2,7 +2,6 @@
 use Rattle.std.specs.Prelude.{◌≡◌, ℕ, ◌+◌, ◌%◌, ◌^◌, List, ◌==◌}
 use Rattle.laws.specs.Choice.{pick}
 use Rattle.words.specs.declared.Config.{Config}
-use Rattle.state.specs.declared.Machine.{Machine}
 use Rattle.state.specs.State.{State, env}
 use Rattle.state.specs.Step.{Outcome, step_of}
 use Rattle.machine.specs.Stepping.{End}

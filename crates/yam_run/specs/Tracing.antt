@@ -1,5 +1,5 @@
 -- What a whole trace prints, and that traced steps one after another print it.
-use Rattle.std.specs.Prelude.{◌≡◌, ℕ, zero, suc, ◌+◌, ◌%◌, ◌^◌, ◌<◌, ◌≤◌, Bool, true, false, List, [], ◌∷◌, ◌++◌, length, take, ◌==◌}
+use Rattle.std.specs.Prelude.{◌≡◌, ℕ, zero, suc, ◌+◌, ◌%◌, ◌^◌, ◌<◌, ◌≤◌, List, [], ◌∷◌, ◌++◌, length, take, ◌==◌}
 use Rattle.laws.specs.Choice.{pick}
 use Rattle.laws.specs.Test.{Holds}
 use Rattle.words.specs.declared.Config.{Config}

@@ -12,10 +12,11 @@ ghost use Rattle.state.specs.State.{env, reset_machine};
 ghost use Rattle.yam_run.specs.Running.{end_text, Traces};
 ghost use Rattle.yam_run.specs.Tracing.{TracesJoin, TraceAsRun};
 
-use files::{read_all, read_file};
+use files::{NAME_BYTES, argument, argument_count, read_all, read_file};
 use machine::Ran;
 use printing::{put_bytes, put_decimal, put_refusal};
 use state::{Core, Machine};
+use std::rt::Files;
 use words::Config;
 
 const WORDS: usize = 8192;
@@ -211,6 +212,7 @@ fn trace_step(
 
 // Prints the report of the steps that were traced.
 fn print_report(
+    rt: &(impl Print + Eprint),
     c: Config,
     number: u32,
     steps: u64,
@@ -226,11 +228,12 @@ fn print_report(
     let n = report::put_report(
         c, number, steps, cycles, core, &stack, registers, addresses, values, page, 0,
     );
-    files::print(page, n);
+    files::print(rt, page, n);
 }
 
 // Traces from reset: a line for each step that is carried out, to the budget or to the first that is stopped, and the report.
 fn trace_from_reset(
+    rt: &(impl Print + Eprint),
     c: Config,
     image: &[u32],
     inputs: &[u32],
@@ -267,22 +270,25 @@ fn trace_from_reset(
         let next = t.machine;
         if t.number != 0 {
             print_report(
-                c, t.number, steps, cycles, next, registers, addresses, values, page,
+                rt, c, t.number, steps, cycles, next, registers, addresses, values, page,
             );
             return;
         }
-        if !files::print(page, t.bytes) {
+        if !files::print(rt, page, t.bytes) {
             return;
         }
         m = next;
         cycles = std::num::wrapping_add_u64(cycles, t.cycles);
         steps += 1;
     }
-    print_report(c, 0, steps, cycles, m, registers, addresses, values, page);
+    print_report(
+        rt, c, 0, steps, cycles, m, registers, addresses, values, page,
+    );
 }
 
 // Runs or traces the words of an image on memories that are lent, all zeros.
 fn execute_on(
+    rt: &(impl Print + Eprint),
     c: Config,
     image: &[u32],
     inputs: &[u32],
@@ -302,10 +308,11 @@ fn execute_on(
         let n = run_from_reset(
             c, image, inputs, registers, memory, addresses, values, budget, page,
         );
-        files::print(page, n);
+        files::print(rt, page, n);
         return;
     }
     trace_from_reset(
+        rt,
         c,
         image,
         inputs,
@@ -322,6 +329,7 @@ fn execute_on(
 
 // The same on as many cells of these memories as the configuration says.
 fn execute_in(
+    rt: &(impl Print + Eprint),
     c: Config,
     image: &[u32],
     inputs: &[u32],
@@ -340,6 +348,7 @@ fn execute_in(
     let mut values = [0u32; LOG_PLACES];
     let mut page = [0u8; PAGE_BYTES];
     execute_on(
+        rt,
         c,
         image,
         inputs,
@@ -356,12 +365,20 @@ fn execute_in(
 }
 
 // The same from memories of zeros.
-fn execute(c: Config, image: &[u32], inputs: &[u32], traced: bool, budget: u64) {
+fn execute(
+    rt: &(impl Print + Eprint),
+    c: Config,
+    image: &[u32],
+    inputs: &[u32],
+    traced: bool,
+    budget: u64,
+) {
     let mut registers = [0u32; REGISTERS];
     let mut memory = [0u32; CELLS];
     let mut oldregisters = [0u32; REGISTERS];
     let mut oldmemory = [0u32; CELLS];
     execute_in(
+        rt,
         c,
         image,
         inputs,
@@ -375,12 +392,12 @@ fn execute(c: Config, image: &[u32], inputs: &[u32], traced: bool, budget: u64) 
 }
 
 // Prints a line of words and a number.
-fn print_line(words: &[u8], number: u64) {
+fn print_line(rt: &(impl Print + Eprint), words: &[u8], number: u64) {
     let mut line = [0u8; LINE_BYTES];
     let i = put_bytes(&mut line, 0, words);
     let j = put_decimal(&mut line, i, number);
     let n = put_bytes(&mut line, j, b"\n");
-    files::print(&line, n);
+    files::print(rt, &line, n);
 }
 
 // Whether two texts are the same.
@@ -400,6 +417,7 @@ fn same(text: &[u8], word: &[u8]) -> bool {
 
 // Runs the image with the inputs of a text.
 fn execute_inputs(
+    rt: &(impl Print + Eprint),
     c: Config,
     image: &[u32],
     text: &[u8],
@@ -408,20 +426,21 @@ fn execute_inputs(
     budget: u64,
 ) {
     if INPUT_BYTES < text.len() {
-        print_line(b"malformed length ", INPUT_BYTES as u64);
+        print_line(rt, b"malformed length ", INPUT_BYTES as u64);
         return;
     }
     let r = parsing::hex_words(text, words);
     if r.line != 0 {
-        print_line(b"malformed line ", r.line as u64);
+        print_line(rt, b"malformed line ", r.line as u64);
         return;
     }
     let n = opening::count(r.count, words);
-    execute(c, image, &words[..n], traced, budget);
+    execute(rt, c, image, &words[..n], traced, budget);
 }
 
 // Runs the image with no inputs, or with those of the named file.
 fn run_image(
+    rt: &(impl Files + Print + Eprint),
     c: Config,
     image: &[u32],
     path: &[u8],
@@ -431,19 +450,20 @@ fn run_image(
     budget: u64,
 ) {
     if path.len() == 0 {
-        execute(c, image, &[], traced, budget);
+        execute(rt, c, image, &[], traced, budget);
         return;
     }
-    let input = read_file(path, text);
+    let input = read_file(rt, path, text);
     if input.failed {
         return;
     }
     let bytes = input.bytes;
-    execute_inputs(c, image, &text[..bytes], words, traced, budget);
+    execute_inputs(rt, c, image, &text[..bytes], words, traced, budget);
 }
 
 // Opens the image file and runs it.
 fn run_file(
+    rt: &(impl Files + Print + Eprint),
     file: &[u8],
     path: &[u8],
     image: &mut [u32],
@@ -455,40 +475,39 @@ fn run_file(
     let l = opening::open(file, image);
     let number = l.number;
     if number != 0 {
-        print_line(b"refused ", number as u64);
+        print_line(rt, b"refused ", number as u64);
         return;
     }
     let c = l.config;
     let size = opening::count(c.imsize as usize, image);
-    run_image(c, &image[..size], path, text, words, traced, budget);
+    run_image(rt, c, &image[..size], path, text, words, traced, budget);
 }
 
-fn usage() {
-    io::write_all(2, b"usage: yam_run run|trace STEPS [INPUTS] <IMAGE\n");
+fn usage(rt: &impl Eprint) {
+    let _ = eprintln!(rt; "usage: yam_run run|trace STEPS [INPUTS] <IMAGE");
 }
 
-fn main() {
-    let arguments = os::arg_count();
+fn main(rt: HostRuntime) {
+    let arguments = argument_count(&rt);
     if (arguments != 3) & (arguments != 4) {
-        usage();
+        usage(&rt);
         return;
     }
-    let mut way = io::buffer();
-    let w = os::arg(1, &mut way);
-    let mut number = io::buffer();
-    let n = os::arg(2, &mut number);
-    let mut path = io::buffer();
-    let length = os::arg(3, &mut path);
+    let mut way = [0u8; NAME_BYTES];
+    let w = argument(&rt, 1, &mut way).bytes;
+    let mut number = [0u8; NAME_BYTES];
+    let n = argument(&rt, 2, &mut number).bytes;
+    let mut path = [0u8; NAME_BYTES];
+    let length = argument(&rt, 3, &mut path).bytes;
     let traced = same(&way[..w], b"trace");
     let steps = parsing::decimal_of(&number[..n]);
     if !steps.valid | !(traced | same(&way[..w], b"run")) {
-        usage();
+        usage(&rt);
         return;
     }
     let mut file = [0u8; FILE_BYTES + 1];
-    let input = read_all(0, &mut file);
+    let input = read_all(&rt, "standard input", &mut rt.stdin(), &mut file);
     if input.failed {
-        os::fail(b"standard input");
         return;
     }
     let bytes = input.bytes;
@@ -496,6 +515,7 @@ fn main() {
     let mut text = [0u8; INPUT_BYTES + 1];
     let mut words = [0u32; INPUT_WORDS];
     run_file(
+        &rt,
         &file[..bytes],
         &path[..length],
         &mut image,
