@@ -55,7 +55,7 @@ fn main() {
         let folder = Path::new("../target/staticlib");
         let archive = folder.join("libyam_c.a");
         println!("cargo:rerun-if-changed={}", archive.display());
-        assert!(archive.exists(), "{} is not there: run `rt staticlib yam_c` first", archive.display());
+        assert!(archive.exists(), "{} is not there: run tools/staticlib first", archive.display());
         let folder = folder.canonicalize().expect("the folder is there");
         println!("cargo:rustc-link-search=native={}", folder.display());
         println!("cargo:rustc-link-lib=static=yam_c");

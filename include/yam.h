@@ -1,5 +1,5 @@
-/* The YAM core model: the C interface of the proved library, libyam_c.a (`rt staticlib yam_c`;
-   `tools/install PREFIX` installs it with its headers).
+/* The YAM core model: the C interface of the proved library, libyam_c.a (`tools/staticlib`
+   builds it, `tools/install PREFIX` installs it with its headers).
 
    Every call takes arbitrary values and lengths, ends, and answers the documents' number: 0 for a
    pass, else the refusal or stop (yam_refusals.h has their names, docs/refusals.md an example of

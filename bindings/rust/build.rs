@@ -24,7 +24,7 @@ fn main() {
         }
         _ => {
             eprintln!(
-                "{} is not there: run `rt staticlib yam_c` in the repository, or name its folder by {FOLDER_VARIABLE}",
+                "{} is not there: run tools/staticlib in the repository, or name its folder by {FOLDER_VARIABLE}",
                 archive.display()
             );
             std::process::exit(1);

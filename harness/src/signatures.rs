@@ -65,9 +65,9 @@ fn exported(source: &str) -> Result<Functions, String> {
         functions.insert(name.to_string(), function);
     }
     // Each must have its own name in the library.
-    let unmangled = source.matches("#[no_mangle]\npub extern \"C\" fn ").count();
+    let unmangled = source.matches("#[unsafe(no_mangle)]\npub extern \"C\" fn ").count();
     if unmangled != functions.len() {
-        return Err(format!("{} functions, {unmangled} of them public with #[no_mangle]", functions.len()));
+        return Err(format!("{} functions, {unmangled} of them public with #[unsafe(no_mangle)]", functions.len()));
     }
     Ok(functions)
 }
@@ -325,8 +325,8 @@ mod tests {
                 "fn yam_load(file: &[u8], image: &mut [u32], config: &mut [u32])",
             ),
             ("fn yam_read(config: &[u32], word: u32", "fn yam_read(config: &[u32], word: u16"),
-            ("#[no_mangle]\npub extern \"C\" fn yam_reset", "pub extern \"C\" fn yam_reset"),
-            ("#[no_mangle]\npub extern \"C\" fn yam_reset", "#[no_mangle]\nextern \"C\" fn yam_reset"),
+            ("#[unsafe(no_mangle)]\npub extern \"C\" fn yam_reset", "pub extern \"C\" fn yam_reset"),
+            ("#[unsafe(no_mangle)]\npub extern \"C\" fn yam_reset", "#[unsafe(no_mangle)]\nextern \"C\" fn yam_reset"),
             ("pub extern \"C\" fn yam_reset", "pub fn yam_reset"),
         ];
         for (old, new) in changes {

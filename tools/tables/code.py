@@ -1,7 +1,7 @@
 """The tables of rows as code: flat columns of numbers, the same in matches for a single word, the numbers' names, and the C header."""
 from . import lookup
 from .rows import CLASSES, COLUMNS, INDEX, IRQ_SWITCH, MARKS, MISC, NO_ROW, NUMBER, OPTIONS, PARTS, PORT, ROWS, UPPER_BYTES, packed
-from .specs import SPECS, WRITTEN, lines
+from .specs import PRELUDE, SPECS, WRITTEN, lines
 
 
 def name(text): return text.upper().replace('-', '_')
@@ -71,14 +71,14 @@ def actions(): return f'''// The numbers of the actions: kind, operation and ope
 def classes(): return f'''// The class of a word by its bits 31 to 23 (specs/Classes.antt): a row, or one of these. {WRITTEN}
 
 {constants('u32', [('index', INDEX), ('upper-bytes', UPPER_BYTES), ('port', PORT), ('irq-switch', IRQ_SWITCH), ('misc', MISC), ('none', NO_ROW)])}
-// The class of each value, an entry a line.
+// The class of each value.
 pub const CLASSES: [u8; 512] = [
 {entries(CLASSES, '%d')}
 ];
 '''
 
 
-def columns(): return f'''// The rows as columns of numbers, an entry a line, in the order of specs/Rows.antt. {WRITTEN}
+def columns(): return f'''// The rows as columns of numbers, in the order of specs/Rows.antt. {WRITTEN}
 
 // The word of each row with all parts zero.
 pub const BASES: [u32; {len(ROWS)}] = [
@@ -102,16 +102,14 @@ def arms(xs, form): return lines(f'        {i} => {form % x},' for i, x in enume
 
 def single(): return f'''// The class and the columns of one word, for a caller that reads a single one: here the numbers stand in the code, where each use of a table would build it
 // anew. {WRITTEN}
-ghost use mathlib.Core.Path.{{_≡_}};
-ghost use Prim.Native.Nat.{{_<_}};
-ghost use lib.ListN.{{getD}};
-ghost use {SPECS}Classes.{{classOf}};
-ghost use {SPECS}Packed.{{noPacked, baseTable, rowTable, eightClasses}};
+ghost use {PRELUDE}{{◌≡◌, ◌<◌, get_or}};
+ghost use {SPECS}Classes.{{class_of}};
+ghost use {SPECS}Packed.{{no_packed, base_table, row_table, eight_classes}};
 
 // The classes of eight values of bits 31-23, from 8 j on, a byte each.
 fn eight_classes(j: u32) -> u64
-    requires {{ ⌜ j < 64 ⌝ }}
-    ensures {{ λ r. ⌜ r ≡ eightClasses j ⌝ }}
+    requires {{ j < 64 }}
+    ensures {{ result ≡ eight_classes j }}
 {{
     match j {{
 {arms([digits(8, enumerate(CLASSES[8 * j:8 * j + 8])) for j in range(64)], '0x%016x')}
@@ -121,15 +119,15 @@ fn eight_classes(j: u32) -> u64
 
 // The class of value k of bits 31-23.
 pub fn class_of(k: u32) -> u32
-    requires {{ ⌜ k < 512 ⌝ }}
-    ensures {{ λ r. ⌜ r ≡ classOf k ⌝ }}
+    requires {{ k < 512 }}
+    ensures {{ result ≡ class_of k }}
 {{
     ((eight_classes(k / 8) >> (8 * (k % 8))) % 256) as u32
 }}
 
 // The word of row n with all parts zero; past the rows 0.
 pub fn base_of(n: u32) -> u32
-    ensures {{ λ r. ⌜ r ≡ getD baseTable n 0 ⌝ }}
+    ensures {{ result ≡ get_or base_table n 0 }}
 {{
     match n {{
 {arms([r['base'] for r in ROWS], '0x%08x')}
@@ -139,7 +137,7 @@ pub fn base_of(n: u32) -> u32
 
 // The other columns of row n, packed; past the rows those of no row.
 pub fn packed_of(n: u32) -> u64
-    ensures {{ λ r. ⌜ r ≡ getD rowTable n noPacked ⌝ }}
+    ensures {{ result ≡ get_or row_table n no_packed }}
 {{
     match n {{
 {arms([packed(r) for r in ROWS], '0x%016x')}
@@ -151,49 +149,48 @@ pub fn packed_of(n: u32) -> u64
 
 def proof_of_match(function, uses, unfolding, law, count, rest, crate='words', module='single'):
     """The proof of a function that is one match: each arm is computed."""
-    spec = function.replace('_', '-') + '-spec'
-    return f'''-- `{crate}::{module}::{function}` meets its contract. Assumes nothing. {WRITTEN}
-{lines('use ' + u for u in uses)}
-use Rattle·{crate}·proofs.proofs.{module}.{function}.Statement.{{statement}}
-use Rattle·{crate}·proofs.proofs.{module}.{function}.Tie as tie
-
-pub {spec} : {{M : Type 1}} → statement M
+    def answer(goal, term): return f'''
+pub returns-{goal} : goal.returns-{goal}
 unfolding {unfolding}
-{spec} =
-    tie.close
-    (tie.spec
-{lines(f'    (λ c. {law} _ {i} _ (c .match .keys{i + 1}) refl)' for i in range(count))}
-    (λ c. {rest}))
+returns-{goal} c = {term}
 '''
 
+    return f'''-- `{crate}::{module}::{function}` meets its contract. Assumes nothing. {WRITTEN}
+{lines('use ' + u for u in uses)}
+use Rattle.{crate}.proofs.{module}.{function}.Goals as goal
+''' + ''.join(answer(f'in-{i}', f'{law} _ {i} _ c.in-{i}.is refl') for i in range(count)) + answer('in_default', rest)
 
-LAWS = 'Rattle·words·proofs.proofs.single.Laws.'
+
+LAWS = 'Rattle.words.proofs.single.Laws.'
 REFL = 'mathlib.Core.Path.{refl}'
-TABLE = 'Rattle·laws.specs.Table.{excluded}'
+TABLE = 'Rattle.laws.specs.Table.{excluded}'
+
+
+# That a number is none of the first so many, as the last arm of a match has it.
+def none_of(count): return f'excluded _ {count} c.in_default.in_default-own.rest'
 
 
 def proofs():
-    past = f'(excluded _ {len(ROWS)} (c .match .rest))'
     yield 'eight_classes', proof_of_match(
-        'eight_classes', [REFL, 'native.Mathlib.Omega.{arith}', 'Rattle·laws.specs.Choice.{pick}', SPECS + 'Classes.{classOf}', SPECS + 'Packed.{eightClasses}',
-                          TABLE, LAWS + '{classes-moved}'],
-        'eightClasses classOf pick', 'classes-moved', 64, 'let h = excluded _ 64 (c .match .rest) in absurd (omega (arith, h))')
+        'eight_classes', [REFL, 'native.Mathlib.Omega.{arith}', 'Rattle.laws.specs.Choice.{pick}', SPECS + 'Classes.{class_of}', SPECS + 'Packed.{eight_classes}',
+                          TABLE, LAWS + '{classes_moved}'],
+        'eight_classes class_of pick', 'classes_moved', 64, f'let h = {none_of(64)} in absurd (omega (arith, h))')
     yield 'base_of', proof_of_match(
-        'base_of', [REFL, SPECS + 'Rows.{rows}', SPECS + 'Packed.{baseTable}', TABLE, LAWS + '{base-moved, base-past}'],
-        'baseTable rows', 'base-moved', len(ROWS), f'base-past _ {past}')
+        'base_of', [REFL, SPECS + 'Rows.{rows}', SPECS + 'Packed.{base_table}', TABLE, LAWS + '{base_moved, base_past}'],
+        'base_table rows', 'base_moved', len(ROWS), f'base_past _ ({none_of(len(ROWS))})')
     yield 'packed_of', proof_of_match(
-        'packed_of', [REFL, SPECS + 'Kinds.{marksOf}', SPECS + 'Rows.{rows}', SPECS + 'Codes.{partCode, optionCode, weight}', SPECS + 'Packed.{packed, rowTable}',
-                      TABLE, LAWS + '{packed-moved, packed-past}'],
-        'rowTable rows packed partCode optionCode marksOf weight', 'packed-moved', len(ROWS), f'packed-past _ {past}')
+        'packed_of', [REFL, SPECS + 'Kinds.{marks_of}', SPECS + 'Rows.{rows}', SPECS + 'Codes.{part_code, option_code, weight}', SPECS + 'Packed.{packed, row_table}',
+                      TABLE, LAWS + '{packed_moved, packed_past}'],
+        'row_table rows packed part_code option_code marks_of weight', 'packed_moved', len(ROWS), f'packed_past _ ({none_of(len(ROWS))})')
 
 
 def templates(): return f'''// The template of each row (specs/Templates.antt). {WRITTEN}
-ghost use mathlib.Core.Path.{{_≡_}};
-ghost use Rattle·cells·specs.specs.Templates.{{templateOf}};
+ghost use {PRELUDE}{{◌≡◌}};
+ghost use Rattle.cells.specs.Templates.{{template_of}};
 
 // Past the rows 0.
 pub fn template(n: u32) -> u32
-    ensures {{ λ r. ⌜ r ≡ templateOf n ⌝ }}
+    ensures {{ result ≡ template_of n }}
 {{
     match n {{
 {arms([lookup.template(r) for r in ROWS], '0x%08x')}
@@ -204,14 +201,13 @@ pub fn template(n: u32) -> u32
 
 
 def proof_of_templates():
-    words = 'Rattle·words.specs.'
     return proof_of_match(
-        'template', [REFL, 'Rattle·laws.specs.Choice.{pick}', TABLE, words + 'Kinds.{marksOf}', words + 'Codes.{formAt, conditionAt}', words + 'Facts.{factsFor}',
-                     words + 'Actions.{actions, entries}', words + 'Lookup.{entryAt, actionAt}', 'Rattle·arith.specs.Width.{one}',
-                     'Rattle·state.specs.Operands.{conditionMet}', 'Rattle·cells·specs.specs.Cell.{takenOf}',
-                     'Rattle·cells·specs.specs.Templates.{valueSource, templateOf}', 'Rattle·cells·proofs.proofs.templates.Laws.{template-moved, template-past}'],
-        'templateOf entryAt entries actionAt actions formAt conditionAt factsFor marksOf takenOf conditionMet valueSource one pick', 'template-moved', len(ROWS),
-        f'template-past _ (excluded _ {len(ROWS)} (c .match .rest))', 'cells', 'templates')
+        'template', [REFL, 'Rattle.laws.specs.Choice.{pick}', TABLE, SPECS + 'Kinds.{marks_of}', SPECS + 'Codes.{form_at, condition_at}', SPECS + 'Facts.{facts_for}',
+                     SPECS + 'Actions.{actions, entries}', SPECS + 'Lookup.{entry_at, action_at}', 'Rattle.arith.specs.Width.{one}',
+                     'Rattle.state.specs.Operands.{condition_met}', 'Rattle.cells.specs.Cell.{taken_of}',
+                     'Rattle.cells.specs.Templates.{value_source, template_of}', 'Rattle.cells.proofs.templates.Laws.{template_moved, template_past}'],
+        'template_of entry_at entries action_at actions form_at condition_at facts_for marks_of taken_of condition_met value_source one pick', 'template_moved', len(ROWS),
+        f'template_past _ ({none_of(len(ROWS))})', 'cells', 'templates')
 
 
 def header(): return f'''/* The numbers of the rows, in the order of crates/words/specs/Rows.antt. {WRITTEN} */
@@ -227,7 +223,7 @@ def header(): return f'''/* The numbers of the rows, in the order of crates/word
 def write(words, cells, include):
     for file, text in (('numbers', numbers()), ('codes', codes()), ('actions', actions()), ('classes', classes()), ('columns', columns()), ('single', single())):
         (words / 'src' / f'{file}.rt').write_text(text)
-    for function, text in proofs(): (words / 'proofs' / 'single' / function / 'Proof.antt').write_text(text)
+    for function, text in proofs(): (words / 'proofs' / 'single' / function / 'Answers.antt').write_text(text)
     (cells / 'src' / 'templates.rt').write_text(templates())
-    (cells / 'proofs' / 'templates' / 'template' / 'Proof.antt').write_text(proof_of_templates())
+    (cells / 'proofs' / 'templates' / 'template' / 'Answers.antt').write_text(proof_of_templates())
     (include / 'yam_rows.h').write_text(header())

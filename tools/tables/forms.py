@@ -34,7 +34,7 @@ KEYS, START_FACTOR, SHAPE_FACTOR, DIVISOR = 512, 103768835, 904827101, 0x100000
 
 
 def key(pattern):
-    """The key of a form's lines: specs/Heads.antt's keyOf of the pattern, as any digit counts as 0."""
+    """The key of a form's lines: specs/Heads.antt's key_of of the pattern, as any digit counts as 0."""
     def mark(j): return ord(pattern[-j]) if j <= len(pattern) and pattern[-j] not in '0123456789abcdef' else 0
 
     start = int.from_bytes(pattern[:4].encode(), 'little')
@@ -51,29 +51,27 @@ for number, (pattern, _) in enumerate(FORMS, 1):
 def heads():
     return f"""-- Where to look for the form of a line: for each key the last form that has it, counted from 1, and for each form the one before it with the same key. Nothing
 -- here is to be believed: proofs/Heads.antt shows that each form is found by the key of its lines. Written by tools/texts.
-use Prim.Native.Nat.{{ℕ, _+_, _*_, _/_, _%_}}
-use mathlib.Core.List.{{List, [], _∷_}}
-use lib.ListN.{{length, getD}}
-use Rattle·laws.specs.Choice.{{pick}}
-use Rattle·syntax.specs.Pieces.{{isHex}}
-use Rattle·assembler·specs.specs.Bytes.{{byteBefore}}
+use Rattle.std.specs.Prelude.{{ℕ, ◌+◌, ◌*◌, ◌/◌, ◌%◌, List, [], ◌∷◌, length, get_or}}
+use Rattle.laws.specs.Choice.{{pick}}
+use Rattle.syntax.specs.Pieces.{{is_hex}}
+use Rattle.assembler.specs.Bytes.{{byte_before}}
 
 -- a byte that is no digit; 0 for every digit
-unfoldable pub markOf : ℕ → ℕ
-markOf b = pick (isHex b) 0 b
+unfoldable pub mark_of : ℕ → ℕ
+mark_of b = pick (is_hex b) 0 b
 
 -- from a line's first four bytes, which are digits in no form, its length, and two bytes where marks stand
-unfoldable pub keyOf : List ℕ → ℕ
-keyOf l =
-    let start = getD l 0 0 + 0x100 * getD l 1 0 + 0x10000 * getD l 2 0 + 0x1000000 * getD l 3 0 in
-    let shape = length l + 0x100 * markOf (byteBefore l 5) + 0x10000 * markOf (byteBefore l 7) in
+unfoldable pub key_of : List ℕ → ℕ
+key_of l =
+    let start = get_or l 0 0 + 0x100 * get_or l 1 0 + 0x10000 * get_or l 2 0 + 0x1000000 * get_or l 3 0 in
+    let shape = length l + 0x100 * mark_of (byte_before l 5) + 0x10000 * mark_of (byte_before l 7) in
     ({START_FACTOR} * start + {SHAPE_FACTOR} * shape) / {DIVISOR:#x} % {KEYS}
 
-unfoldable pub headTable : List ℕ
-headTable =
+unfoldable pub head_table : List ℕ
+head_table =
 {lines([str(q) for q in HEADS], 32)}
-unfoldable pub linkTable : List ℕ
-linkTable =
+unfoldable pub link_table : List ℕ
+link_table =
 {lines([str(q) for q in LINKS], 32)}"""
 
 

@@ -66,23 +66,23 @@ def template(r):
     digits = CHECKS.index(check(r)) << 10 | value_source(r) << 16
     if kind[0] in APART: return digits
     digits |= a | sum(1 << 6 + n for n, column in enumerate(('flag', 'destination', 'source')) if column in uses(action(r)))
-    digits |= ('loads' in marked) << 9 | taken(kind) << 20 | 2 + ('reads-port' in marked) << 24
+    digits |= ('loads' in marked) << 9 | taken(kind) << 20 | 2 + ('reads_port' in marked) << 24
     return digits
 
 
 # The kinds that the machine's loop does not carry out.
-APART = {'enter-special': 8, 'leave-special': 9}
+APART = {'enter_special': 8, 'leave_special': 9}
 
 
 def value_source(r):
-    """Where the value of a cell comes from, by number (crates/cells/specs/Templates.antt, valueSource)."""
+    """Where the value of a cell comes from, by number (crates/cells/specs/Templates.antt, value_source)."""
     kind, found = r['kind'], uses(action(r))
     if kind[0] in APART: return APART[kind[0]]
     if 'unit' in found: return 7
     if 'number' in found: return 6
     if 'target' in found: return 5
     if 'value' not in found: return 0
-    if kind[0] == 'ret-constant': return 1
+    if kind[0] == 'ret_constant': return 1
     form = next((FORMS.index(x) for x in ' '.join(kind[1:]).replace('(', ' ').replace(')', ' ').split() if x in FORMS), None)
     return 4 if form is None else 1 + form
 

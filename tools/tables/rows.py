@@ -3,37 +3,37 @@
 A request adds lines and renumbers nothing: a row's number is its place here, and the C interface hands it out (include/yam_rows.h)."""
 
 # What a part of a word holds, and the option that a row needs; their meaning stands in specs/Parts.antt.
-PARTS = 'unused flag byte coprocessor register unit mask immediate read-address write-address target count bank-address short'.split()
-OPTIONS = 'always mult level1 level2 level2-memory memory ports rmw banks spr never'.split()
+PARTS = 'unused flag byte coprocessor register unit mask immediate read_address write_address target count bank_address short'.split()
+OPTIONS = 'always mult level1 level2 level2_memory memory ports rmw banks spr never'.split()
 FORMS = 'Signed Unsigned Shifted'.split()
 CONDITIONS = 'ALWAYS Z NZ GT LT GE LE NIRQ B0 B1 NB0 NB1 BIO'.split()  # JMP's, by bits 26-23
 COLUMNS = 'flag number destination source value'.split()
 
 # What rules, stops and cycles ask of a kind: a mark, the fact that code hands on (struct Facts), what it means.
 MARKS = [
-    ('goes-on', 'next', 'control may go to the next address'),
+    ('goes_on', 'next', 'control may go to the next address'),
     ('jumps', 'target', "control may go to the value part's address"),
     ('calls', 'calls', 'pushes the return stack'),
     ('returns', 'returns', 'pops the return stack'),
-    ('enters-mode', 'enters', 'switches special-register mode on'),
-    ('leaves-mode', 'leaves', 'switches special-register mode off'),
+    ('enters_mode', 'enters', 'switches special-register mode on'),
+    ('leaves_mode', 'leaves', 'switches special-register mode off'),
     ('reveals', 'reveals', 'in special-register mode reads the special register that its source names'),
-    ('reads-port', 'input', 'reads a port'),
-    ('writes-port', 'output', 'writes a port'),
+    ('reads_port', 'input', 'reads a port'),
+    ('writes_port', 'output', 'writes a port'),
     ('loads', 'load', 'reads data memory'),
     ('stores', 'store', 'writes data memory'),
-    ('by-register', 'indirect', 'its data address comes from a register'),
-    ('enters-bank', 'tobank', 'JSRWP'),
-    ('leaves-bank', 'frombank', 'RETWP'),
+    ('by_register', 'indirect', 'its data address comes from a register'),
+    ('enters_bank', 'tobank', 'JSRWP'),
+    ('leaves_bank', 'frombank', 'RETWP'),
     ('barred', 'barred', "barred by the certificate's rule 3"),
-    ('by-index', 'index', 'moves the register that RX names: MOVX'),
+    ('by_index', 'index', 'moves the register that RX names: MOVX'),
 ]
 
 # The second operand: name, argument, its column and what that holds, how the manual writes it.
 OPERANDS = [
-    ('from-register', '', 'source', 'register', '%s'),
+    ('from_register', '', 'source', 'register', '%s'),
     ('literal', 'Form', 'value', 'immediate', '# signed, > unsigned, < shifted immediate'),
-    ('short-literal', '', 'value', 'short', '# short signed immediate'),
+    ('short_literal', '', 'value', 'short', '# short signed immediate'),
     ('counted', '', 'value', 'count', '# shift count'),
 ]
 
@@ -41,34 +41,34 @@ OPERANDS = [
 ALU, TO, BOTH = 'flag=flag destination=register', 'destination=register', 'destination=register source=register'
 KINDS = [
     ('unsupported', '', '', '', 'no configuration has the row'),
-    ('compute', 'Operation Operand', ALU, 'goes-on', '%d gets the result of %d and the operand'),
-    ('compare', 'Operation Operand', ALU, 'goes-on', 'flags alone: TST, CMP and CMPS are And, Sub and Subs that write no register'),
-    ('multiply', 'Operand', ALU, 'goes-on', 'MUL'),
-    ('bytewise', '(ℕ→Operation)', ALU + ' number=byte source=register', 'goes-on', 'BST, BLD, BLDS: the operation of the byte number'),
-    ('load-index', '', ALU + ' source=register', 'goes-on', 'LDYX'),
-    ('index-store', '', ALU, 'goes-on stores by-register by-index', 'MOVX to DM'),
-    ('index-load', '', 'flag=flag source=register', 'goes-on loads by-register by-index', 'MOVX from DM'),
-    ('move', '', BOTH, 'goes-on reveals', 'MOV %d,%s'),
-    ('load-constant', 'Form', TO + ' value=immediate', 'goes-on', 'MOV %d,immediate'),
-    ('load-register', '', BOTH, 'goes-on loads by-register', 'MOV %d,@%s'),
-    ('load-direct', '', TO + ' value=read-address', 'goes-on loads', 'MOV %d,&a'),
-    ('store-register', '', BOTH, 'goes-on stores by-register', 'MOV @%d,%s'),
-    ('store-direct', '', TO + ' value=write-address', 'goes-on stores', 'MOV &a,%s: "source register in 22-16"'),
-    ('port-read', '', BOTH, 'goes-on reads-port', 'MOVIO %d,@%s'),
-    ('port-modify', '', BOTH, 'goes-on reads-port writes-port', 'IORMW'),
-    ('port-write', 'Operand', TO, 'goes-on writes-port', 'MOVIO @%d,operand'),
+    ('compute', 'Operation Operand', ALU, 'goes_on', '%d gets the result of %d and the operand'),
+    ('compare', 'Operation Operand', ALU, 'goes_on', 'flags alone: TST, CMP and CMPS are And, Sub and Subs that write no register'),
+    ('multiply', 'Operand', ALU, 'goes_on', 'MUL'),
+    ('bytewise', '(ℕ→Operation)', ALU + ' number=byte source=register', 'goes_on', 'BST, BLD, BLDS: the operation of the byte number'),
+    ('load_index', '', ALU + ' source=register', 'goes_on', 'LDYX'),
+    ('index_store', '', ALU, 'goes_on stores by_register by_index', 'MOVX to DM'),
+    ('index_load', '', 'flag=flag source=register', 'goes_on loads by_register by_index', 'MOVX from DM'),
+    ('move', '', BOTH, 'goes_on reveals', 'MOV %d,%s'),
+    ('load_constant', 'Form', TO + ' value=immediate', 'goes_on', 'MOV %d,immediate'),
+    ('load_register', '', BOTH, 'goes_on loads by_register', 'MOV %d,@%s'),
+    ('load_direct', '', TO + ' value=read_address', 'goes_on loads', 'MOV %d,&a'),
+    ('store_register', '', BOTH, 'goes_on stores by_register', 'MOV @%d,%s'),
+    ('store_direct', '', TO + ' value=write_address', 'goes_on stores', 'MOV &a,%s: "source register in 22-16"'),
+    ('port_read', '', BOTH, 'goes_on reads_port', 'MOVIO %d,@%s'),
+    ('port_modify', '', BOTH, 'goes_on reads_port writes_port', 'IORMW'),
+    ('port_write', 'Operand', TO, 'goes_on writes_port', 'MOVIO @%d,operand'),
     ('jump', '', 'value=target', 'jumps', 'JMP target'),
-    ('branch', 'Condition', 'value=target', 'goes-on jumps', 'JMP target,condition'),
-    ('jump-register', '', TO, 'barred', 'JMP @%d'),
-    ('branch-register', 'Condition', TO, 'goes-on barred', 'JMP @%d,condition'),
-    ('call', '', 'value=target', 'goes-on jumps calls', 'JSR target'),
-    ('call-register', '', TO, 'goes-on calls barred', 'JSR @%d'),
+    ('branch', 'Condition', 'value=target', 'goes_on jumps', 'JMP target,condition'),
+    ('jump_register', '', TO, 'barred', 'JMP @%d'),
+    ('branch_register', 'Condition', TO, 'goes_on barred', 'JMP @%d,condition'),
+    ('call', '', 'value=target', 'goes_on jumps calls', 'JSR target'),
+    ('call_register', '', TO, 'goes_on calls barred', 'JSR @%d'),
     ('ret', '', '', 'returns', 'RET'),
-    ('ret-constant', '', TO + ' value=immediate', 'returns', 'RLD, the signed form'),
-    ('enter-bank', '', 'destination=unit value=bank-address', 'enters-bank barred', 'JSRWP'),
-    ('leave-bank', '', '', 'leaves-bank barred', 'RETWP'),
-    ('enter-special', '', '', 'goes-on enters-mode', 'SPR_ON'),
-    ('leave-special', '', '', 'goes-on leaves-mode', 'SPR_OFF'),
+    ('ret_constant', '', TO + ' value=immediate', 'returns', 'RLD, the signed form'),
+    ('enter_bank', '', 'destination=unit value=bank_address', 'enters_bank barred', 'JSRWP'),
+    ('leave_bank', '', '', 'leaves_bank barred', 'RETWP'),
+    ('enter_special', '', '', 'goes_on enters_mode', 'SPR_ON'),
+    ('leave_special', '', '', 'goes_on leaves_mode', 'SPR_OFF'),
 ]
 KIND = {k[0]: k for k in KINDS}
 
@@ -112,59 +112,59 @@ for number, name in enumerate(BASE):
     top = (14 if name == 'MUL' else number) << 27
     kind = ('multiply',) if name == 'MUL' else ('compare' if name in COMPARES else 'compute', operation(name))
     option = 'mult' if name == 'MUL' else 'always'
-    row(f'{name}-register', f'{name} %d,%s', top, kind + ('from-register',), option)
+    row(f'{name}-register', f'{name} %d,%s', top, kind + ('from_register',), option)
     for form, sign, mode in (('Signed', '#', 5), ('Unsigned', '>', 6), ('Shifted', '<', 7)):
         row(f'{name}-{form.lower()}', f'{name} %d,{sign}imm', top | mode << 23, kind + (f'(literal {form})',), option)
-    row(f'{name}-short', f'{name} %d,#short', top | 4 << 23, kind + ('short-literal',), 'never')
+    row(f'{name}-short', f'{name} %d,#short', top | 4 << 23, kind + ('short_literal',), 'never')
 # shifts
 for name, mode in (('SHR', 0), ('SHRA', 1), ('SHL', 4)):
-    row(f'{name}-register', f'{name} %d,%s', key('10000 0 000') | mode << 23, ('compute', operation(name), 'from-register'), 'level1')
+    row(f'{name}-register', f'{name} %d,%s', key('10000 0 000') | mode << 23, ('compute', operation(name), 'from_register'), 'level1')
 for name, mode in (('SHR', 2), ('SHRA', 3), ('SHL', 6)):
     row(f'{name}-count', f'{name} %d,#count', key('10000 0 000') | mode << 23, ('compute', operation(name), 'counted'))
 # level 1
 for name, mode in (('ROTR', 0), ('ROTL', 4), ('SHL16', 6), ('ABS', 1), ('CLZ', 3)):
-    row(name, f'{name} %d,%s', key('10010 0 000') | mode << 23, ('compute', operation(name), 'from-register'), 'level1')
+    row(name, f'{name} %d,%s', key('10010 0 000') | mode << 23, ('compute', operation(name), 'from_register'), 'level1')
 # level 2: bits 15-8 choose
 LEVEL2 = key('10011 0 000')
 for name, code in (('BST', 0x01), ('BLD', 0x02), ('BLDS', 0x06)):
     row(name, f'{name}N %d,%s', LEVEL2 | code << 8, ('bytewise', operation(name)), 'level2')
-row('LDYX', 'LDYX %RY,%RX', LEVEL2 | 0x14 << 8, ('load-index',), 'level2')
-row('MOVX-to', 'MOVX @%d,@%X+', LEVEL2 | 0x18 << 8, ('index-store',), 'level2-memory')
-row('MOVX-from', 'MOVX @%X+,@%s', LEVEL2 | 0x1c << 8, ('index-load',), 'level2-memory')
+row('LDYX', 'LDYX %RY,%RX', LEVEL2 | 0x14 << 8, ('load_index',), 'level2')
+row('MOVX-to', 'MOVX @%d,@%X+', LEVEL2 | 0x18 << 8, ('index_store',), 'level2_memory')
+row('MOVX-from', 'MOVX @%X+,@%s', LEVEL2 | 0x1c << 8, ('index_load',), 'level2_memory')
 # MOV: destination mode 27-26, source mode 25-23
 row('MOV-register', 'MOV %d,%s', key('1010 00 000'), ('move',))
-row('MOV-signed', 'MOV %d,#imm', key('1010 00 101'), ('load-constant', 'Signed'))
-row('MOV-unsigned', 'MOV %d,>imm', key('1010 00 110'), ('load-constant', 'Unsigned'))
-row('MOV-shifted', 'MOV %d,<imm', key('1010 00 111'), ('load-constant', 'Shifted'))
-row('MOV-from-register', 'MOV %d,@%s', key('1010 00 010'), ('load-register',), 'memory')
-row('MOV-from-address', 'MOV %d,&a', key('1010 00 011'), ('load-direct',), 'memory')
-row('MOV-to-register', 'MOV @%d,%s', key('1010 10 000'), ('store-register',), 'memory')
-row('MOV-to-address', 'MOV &a,%s', key('1010 11 000'), ('store-direct',), 'memory')
+row('MOV-signed', 'MOV %d,#imm', key('1010 00 101'), ('load_constant', 'Signed'))
+row('MOV-unsigned', 'MOV %d,>imm', key('1010 00 110'), ('load_constant', 'Unsigned'))
+row('MOV-shifted', 'MOV %d,<imm', key('1010 00 111'), ('load_constant', 'Shifted'))
+row('MOV-from-register', 'MOV %d,@%s', key('1010 00 010'), ('load_register',), 'memory')
+row('MOV-from-address', 'MOV %d,&a', key('1010 00 011'), ('load_direct',), 'memory')
+row('MOV-to-register', 'MOV @%d,%s', key('1010 10 000'), ('store_register',), 'memory')
+row('MOV-to-address', 'MOV &a,%s', key('1010 11 000'), ('store_direct',), 'memory')
 # MOVIO; bit 15 makes a read IORMW
-row('MOVIO-read', 'MOVIO %d,@%s', key('1011 00 010'), ('port-read',), 'ports')
-row('IORMW', 'IORMW %d,@%s', key('1011 00 010') | 1 << 15, ('port-modify',), 'rmw')
-row('MOVIO-register', 'MOVIO @%d,%s', key('1011 10 000'), ('port-write', 'from-register'), 'ports')
-row('MOVIO-signed', 'MOVIO @%d,#imm', key('1011 10 101'), ('port-write', '(literal Signed)'), 'ports')
-row('MOVIO-unsigned', 'MOVIO @%d,>imm', key('1011 10 110'), ('port-write', '(literal Unsigned)'), 'ports')
-row('MOVIO-shifted', 'MOVIO @%d,<imm', key('1011 10 111'), ('port-write', '(literal Shifted)'), 'ports')
+row('MOVIO-read', 'MOVIO %d,@%s', key('1011 00 010'), ('port_read',), 'ports')
+row('IORMW', 'IORMW %d,@%s', key('1011 00 010') | 1 << 15, ('port_modify',), 'rmw')
+row('MOVIO-register', 'MOVIO @%d,%s', key('1011 10 000'), ('port_write', 'from_register'), 'ports')
+row('MOVIO-signed', 'MOVIO @%d,#imm', key('1011 10 101'), ('port_write', '(literal Signed)'), 'ports')
+row('MOVIO-unsigned', 'MOVIO @%d,>imm', key('1011 10 110'), ('port_write', '(literal Unsigned)'), 'ports')
+row('MOVIO-shifted', 'MOVIO @%d,<imm', key('1011 10 111'), ('port_write', '(literal Shifted)'), 'ports')
 # JMP: bit 27 a register, condition 26-23
 for by, bit, operand in (('', 0, 'target'), ('-register', 1, '@%d')):
     for number, condition in enumerate(CONDITIONS):
         row(f'JMP{by}-{condition}', f'JMP {operand}' + (f',{condition}' if number else ''), key('1100 0 0000') | bit << 27 | number << 23,
-            ('branch' + by, condition) if number else ('jump' + by,), 'never' if 7 <= number <= 11 else 'ports' if number == 12 else 'always')
+            ('branch' + by.replace('-', '_'), condition) if number else ('jump' + by.replace('-', '_'),), 'never' if 7 <= number <= 11 else 'ports' if number == 12 else 'always')
 unsupported('COP', 'COPid %s,#imm,channel', key('1110 00000'), 'number=coprocessor destination=register value=immediate')
 # 1111: bits 27-23, and 22-16 where those are 00000
 row('JSR', 'JSR target', key('1111 00001'), ('call',))
-row('JSR-register', 'JSR @%d', key('1111 10001'), ('call-register',))
-row('RLD', 'RLD %d,#imm', key('1111 00101'), ('ret-constant',))
-row('JSRWP', 'JSRWP address,WP', key('1111 00010'), ('enter-bank',), 'banks')
+row('JSR-register', 'JSR @%d', key('1111 10001'), ('call_register',))
+row('RLD', 'RLD %d,#imm', key('1111 00101'), ('ret_constant',))
+row('JSRWP', 'JSRWP address,WP', key('1111 00010'), ('enter_bank',), 'banks')
 unsupported('IRQ-ON', 'IRQ_ON mask', key('1111 00100'), 'destination=mask')
 unsupported('IRQ-OFF', 'IRQ_OFF mask', key('1111 00100') | 1 << 22, 'destination=mask')
 row('RET', 'RET', key('1111 00000') | 0 << 16, ('ret',))
-row('RETWP', 'RETWP', key('1111 00000') | 1 << 16, ('leave-bank',), 'banks')
+row('RETWP', 'RETWP', key('1111 00000') | 1 << 16, ('leave_bank',), 'banks')
 unsupported('RETI', 'RETI', key('1111 00000') | 2 << 16)
-row('SPR-OFF', 'SPR_OFF', key('1111 00000') | 4 << 16, ('leave-special',), 'spr')
-row('SPR-ON', 'SPR_ON', key('1111 00000') | 5 << 16, ('enter-special',), 'spr')
+row('SPR-OFF', 'SPR_OFF', key('1111 00000') | 4 << 16, ('leave_special',), 'spr')
+row('SPR-ON', 'SPR_ON', key('1111 00000') | 5 << 16, ('enter_special',), 'spr')
 unsupported('IRQM-RLD', 'IRQM_RLD', key('1111 00000') | 6 << 16)
 unsupported('IRQM-SS', 'IRQM_SS', key('1111 00000') | 7 << 16)
 

@@ -43,5 +43,5 @@ def lines(entries, many):
 
 
 def column(note, name, kind, entries):
-    """A table as code, an entry a line."""
+    """A table as code, which rt fmt lays out."""
     return f'\n// {note}\npub const {name}: [{kind}; {len(entries)}] = [\n' + ''.join(f'    {e},\n' for e in entries) + '];\n'

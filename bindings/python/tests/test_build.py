@@ -12,8 +12,8 @@ from .cases import ROOT
 RT = """#!/bin/sh
 echo "rt $*"
 [ "$RT_FAILS" = 1 ] && exit 1
-mkdir -p target/staticlib
-[ -f target/staticlib/libyam_c.a ] || echo archive > target/staticlib/libyam_c.a
+mkdir -p out
+[ -f out/libyam_c.a ] || echo archive > out/libyam_c.a
 """
 # cc -shared -o OUT ARCHIVE: the shared library is the archive with a line more.
 CC = """#!/bin/sh
@@ -33,11 +33,14 @@ class Build(unittest.TestCase):
         self.script = self.tree / "bindings" / "python" / "build"
         self.archive = self.tree / "target" / "staticlib" / "libyam_c.a"
         self.shared = self.tree / "target" / "python" / "libyam.so"
-        for place in (self.source, self.script, self.tree / "bin" / "rt", self.tree / "crates.txt"):
+        library = self.tree / "tools" / "staticlib"
+        rt = self.tree / "bin" / "rt"
+        for place in (self.source, self.script, library, rt, self.tree / "crates.txt"):
             place.parent.mkdir(parents=True, exist_ok=True)
         self.source.write_text("")
         (self.tree / "crates.txt").write_text("")
         shutil.copy(ROOT / "bindings" / "python" / "build", self.script)
+        shutil.copy(ROOT / "tools" / "staticlib", library)
         for name, text in (("rt", RT), ("cc", CC)):
             (self.tree / "bin" / name).write_text(text)
             (self.tree / "bin" / name).chmod(0o755)
@@ -54,7 +57,7 @@ class Build(unittest.TestCase):
         status, said = self.built()
         self.assertEqual((status, self.shared.read_text()), (0, "archive\nshared\n"))
         self.assertIn(SAID, said)
-        self.assertEqual((self.tree / "target" / "yam_c.log").read_text(), "rt staticlib yam_c\n")
+        self.assertEqual((self.tree / "target" / "yam_c.log").read_text(), "rt lib\n")
 
     def test_only_where_it_is_old(self):
         self.built()
@@ -71,7 +74,7 @@ class Build(unittest.TestCase):
 
     def test_failures(self):
         status, said = self.built(RT_FAILS="1")
-        self.assertEqual((status, said.splitlines()[-1]), (1, "rt staticlib yam_c"))
+        self.assertEqual((status, said.splitlines()[-1]), (1, "rt lib"))
         self.assertFalse(self.shared.exists())
         self.built()
         self.assertEqual(self.built(CC_FAILS="1")[0], 1)
