@@ -77,9 +77,9 @@ link_table =
 
 def columns():
     out = '// The forms of lines, and where to look for the form of a line, as bytes (specs/Packed.antt, specs/Heads.antt). Written by tools/texts.\n'
-    out += column(f'{ENTRY} bytes a form.', 'FORMS', 'u8', [b for _, entry in FORMS for b in entry])
-    out += column('For each form the one before it with the same key, counted from 1; 0 where there is none.', 'LINKS', 'u8', LINKS)
-    out += column('For each key the last form that has it, counted from 1; 0 where there is none.', 'HEADS', 'u8', HEADS)
+    out += column(f'{ENTRY} bytes a form.', 'FORMS', 'u8', [b for _, entry in FORMS for b in entry], 'static')
+    out += column('For each form the one before it with the same key, counted from 1; 0 where there is none.', 'LINKS', 'u8', LINKS, 'static')
+    out += column('For each key the last form that has it, counted from 1; 0 where there is none.', 'HEADS', 'u8', HEADS, 'static')
     return out
 
 

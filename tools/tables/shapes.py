@@ -42,6 +42,6 @@ def lines(entries, many):
     return ''.join('    ' + ''.join(e + ' ∷ ' for e in entries[i:i + many]).rstrip() + '\n' for i in range(0, len(entries), many)) + '    []\n'
 
 
-def column(note, name, kind, entries):
-    """A table as code, which rt fmt lays out."""
-    return f'\n// {note}\npub const {name}: [{kind}; {len(entries)}] = [\n' + ''.join(f'    {e},\n' for e in entries) + '];\n'
+def column(note, name, kind, entries, item='const'):
+    """A table as code, a constant or a static, which rt fmt lays out."""
+    return f'\n// {note}\npub {item} {name}: [{kind}; {len(entries)}] = [\n' + ''.join(f'    {e},\n' for e in entries) + '];\n'

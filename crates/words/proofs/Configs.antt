@@ -1,12 +1,13 @@
--- A data size by one test of its bits, as src/configuration.rt asks.
+-- A data size by a count of its bits, as src/configuration.rt asks.
 -- Assumes nothing.
-use Prim.Native.Nat.{ℕ, ◌+◌, ◌*◌, ◌/◌, ◌%◌, ◌<◌, ◌≤◌}
+use Prim.Native.Nat.{ℕ, ◌+◌, ◌*◌, ◌/◌, ◌%◌, ◌^◌, ◌<◌, ◌≤◌}
 use mathlib.Core.Path.{◌≡◌, refl, sym, ap, ◌∙◌}
 use mathlib.Core.Logic.{◌⊎◌, inl, inr}
 use mathlib.Core.Bool.{Bool, true, false, not, ◌&&◌, ◌||◌}
 use native.Mathlib.Omega.{arith}
-use borrow.Author.Tests.{ltb-true, ltb-false, lt-leb, eqb-true, eqb-false, ne_eqb}
-use lib.Bits.{bit_and, and_shr}
+use borrow.Author.Tests.{ltb-true, ltb-false, lt-leb, eqb-true, eqb-false}
+use lib.Count.{ones, ones_in, ones_cat}
+use Rattle.std.proofs.lemmas.Nat.{zero_from_ones}
 use lib.Dec.{T, eqb, ltb, leb, leb→le, ltb→lt, eqb→eq}
 use Rattle.laws.specs.Choice.{true_is}
 use Rattle.laws.specs.Test.{member, member_holds, or_cases}
@@ -16,7 +17,7 @@ use Rattle.words.specs.Configs.{data_sizes}
 use Rattle.words.proofs.Checks.{alike, alike_is}
 
 abbrev sized : ℕ → Bool
-sized d = leb d 32768 && (not (eqb d 1) && eqb (bit_and d (d + 4294967295)) 0)
+sized d = leb d 32768 && (not (eqb d 1) && leb (ones d) 1)
 
 abbrev right : ℕ → Bool
 right d = alike (sized d) (member d data_sizes)
@@ -24,26 +25,38 @@ right d = alike (sized d) (member d data_sizes)
 -- d is 256·h + l. Where h or l is 0, it is looked at.
 
 low_right : T (every 256 right)
+unfolding ones ones_in
 low_right = tt
 
-high_right : T (every 129 (λ h. right (256 * h)))
+high_right : T (every 129 (λ h. alike (leb (256 * h) 32768 && (not (eqb (256 * h) 1) && leb (ones h) 1)) (member (256 * h) data_sizes)))
+unfolding ones ones_in
 high_right = tt
 
--- Elsewhere the upper part of d is in the number before it too, and no size is there.
+no_ones : ones 0 ≡ 0
+unfolding ones ones_in
+no_ones = refl
 
-upper_stays : T (every 129 (λ h. eqb (bit_and h (h + 16777216)) h))
-upper_stays = tt
+ones_high : (h : ℕ) → ones (256 * h) ≡ ones h
+ones_high h =
+    let q : h * 2 ^ 8 + 0 ≡ 256 * h = omega arith in
+    let s = ap ones (sym q) ∙ ones_cat 8 h 0 (omega arith) in
+    omega (arith, s, no_ones)
+
+-- Elsewhere each has a bit of its own, and no size is there.
 
 positive : (n : ℕ) → (n ≡ 0 → ⊥) → 0 < n
 positive n h = omega (arith, h)
 
-shared : (d : ℕ) → d ≤ 32768 → 0 < d % 256 → 256 ≤ d → bit_and d (d + 4294967295) ≡ 0 → ⊥
-shared d h p g z =
-    let b : (d + 4294967295) / 256 ≡ d / 256 + 16777216 = omega (arith, p) in
-    let u = eqb→eq (bit_and (d / 256) (d / 256 + 16777216)) (d / 256)
-    (at_every 129 (λ k. eqb (bit_and k (k + 16777216)) k) (d / 256) upper_stays (omega (arith, h))) in
-    let q : 0 / 256 ≡ d / 256 = ap (λ (x : ℕ). x / 256) (sym z) ∙ (and_shr d (d + 4294967295) 8 ∙ (ap (λ (x : ℕ). bit_and (d / 256) x) b ∙ u)) in
-    omega (arith, q, g)
+has_bit : (n : ℕ) → 0 < n → 0 < ones n
+has_bit n h = positive (ones n) (λ z. let e = zero_from_ones n z in omega (arith, e, h))
+
+two_bits : (d : ℕ) → 0 < d % 256 → 256 ≤ d → 1 < ones d
+two_bits d p g =
+    let q : d / 256 * 2 ^ 8 + d % 256 ≡ d = omega arith in
+    let s = ap ones (sym q) ∙ ones_cat 8 (d / 256) (d % 256) (omega arith) in
+    let u = has_bit (d / 256) (omega (arith, g)) in
+    let l = has_bit (d % 256) p in
+    omega (arith, s, u, l)
 
 no_last : (a b c : Bool) → c ≡ false → (a && (b && c)) ≡ false
 no_last true true c p = p
@@ -61,6 +74,9 @@ no_size d false p g e = refl
 both_false : (a b : Bool) → a ≡ false → b ≡ false → T (alike a b)
 both_false a b p q = rw (p, q) tt
 
+at_high : (h : ℕ) → h < 129 → T (right (256 * h))
+at_high h l = rw (ones_high h) (at_every 129 (λ h. alike (leb (256 * h) 32768 && (not (eqb (256 * h) 1) && leb (ones h) 1)) (member (256 * h) data_sizes)) h high_right l)
+
 inside : (d : ℕ) → d ≤ 32768 → T (right d)
 inside d h = go (eqb (d % 256) 0) refl (ltb d 256) refl
   where
@@ -68,14 +84,14 @@ inside d h = go (eqb (d % 256) 0) refl (ltb d 256) refl
     go true e c f =
         let z = eqb-true (d % 256) 0 e in
         let q : 256 * (d / 256) ≡ d = omega (arith, z) in
-        rw q at (at_every 129 (λ k. right (256 * k)) (d / 256) high_right (omega (arith, h)))
+        rw q at (at_high (d / 256) (omega (arith, h)))
     go false e true f = at_every 256 right d low_right (ltb-true d 256 f)
     go false e false f =
         let z = eqb-false (d % 256) 0 e in
         let g = ltb-false d 256 f in
         let p : 0 < d % 256 = positive (d % 256) z in
         both_false (sized d) (member d data_sizes)
-        (no_last (leb d 32768) (not (eqb d 1)) (eqb (bit_and d (d + 4294967295)) 0) (ne_eqb (bit_and d (d + 4294967295)) 0 (shared d h p g)))
+        (no_last (leb d 32768) (not (eqb d 1)) (leb (ones d) 1) (lt-leb (ones d) 1 (two_bits d p g)))
         (no_size d (member d data_sizes) p g refl)
 
 -- no data size is above

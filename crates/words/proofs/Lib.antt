@@ -1,9 +1,10 @@
-pub mod Digits
+pub mod Lists
 pub mod Keys
 pub mod Quick
 pub mod Configs
 pub mod RoundTrip
 pub mod ClassesExact
+pub mod Statics
 pub mod Packed
 pub mod Checks
 pub mod Parts

@@ -5,15 +5,17 @@ use mathlib.Core.Path.{◌≡◌, refl, ap, ◌∙◌, sym}
 use mathlib.Core.List.{List}
 use native.Mathlib.Omega.{arith}
 use lib.ListN.{get_or}
+use Rattle.std.specs.Prelude.{Result}
 use Rattle.laws.specs.Lists.{column, column_at}
 use Rattle.words.specs.declared.Config.{Config}
-use Rattle.words.specs.declared.Reading.{Reading}
+use Rattle.words.specs.declared.Instruction.{Instruction}
+use Rattle.words.specs.declared.Refusal.{Refusal}
 use Rattle.words.specs.Answers.{reading_of}
 use Rattle.words.specs.Kinds.{unsupported, marks_of}
 use Rattle.words.specs.Rows.{Row, rows, no_row, row_at}
 use Rattle.words.specs.Classes.{none, class_of, row_of}
 use Rattle.words.specs.Words.{fields_in, spread, parts_by, read_by, read_lawful}
-use Rattle.words.specs.Packed.{packed, unpack, facts_in, no_packed, class_table, base_table, row_table, Tables, row_lent, read_lent}
+use Rattle.words.specs.Packed.{packed, unpack, facts_in, no_packed, class_table, base_table, row_table, Tables, row_lent, number_lent, read_lent}
 use Rattle.words.specs.Facts.{facts_for, facts_of}
 use Rattle.words.specs.Codes.{part_code, part_at, option_code, option_at, weight}
 use Rattle.words.proofs.ClassesExact.{class_at}
@@ -36,7 +38,7 @@ unfolding rows packed part_code option_code marks_of weight facts_for
 all_facts = refl
 
 -- the table's numbers at n
-base_at : (n : ℕ) → get_or base_table n 0 ≡ (row_at n).base
+pub base_at : (n : ℕ) → get_or base_table n 0 ≡ (row_at n).base
 unfolding base_table row_at
 base_at n = column_at (λ (r : Row). r.base) rows n no_row
 
@@ -66,8 +68,13 @@ unfolding read_lent read_lawful
 lent c w h =
     same-reading (λ k. get_or class_table k none) class_of (row_lent base_table row_table) row_at c w (class_at (w / 0x800000) (omega arith)) row_lent_lem
 
+-- the row of a word by the table of classes
+pub number_lent_lem : (w : ℕ) → w < 0x100000000 → number_lent class_table w ≡ row_of (class_of (w / 0x800000)) (w % 0x800000)
+unfolding number_lent
+number_lent_lem w h = ap (λ x. row_of x (w % 0x800000)) (class_at (w / 0x800000) (omega arith))
+
 -- the same for callers that lend the tables
-pub read_lent_lem : (cs bs ps : List ℕ) (c : Config) (w : ℕ) (r : Reading) → Tables cs bs ps → w < 0x100000000 →
+pub read_lent_lem : (cs bs ps : List ℕ) (c : Config) (w : ℕ) (r : Result Instruction Refusal) → Tables cs bs ps → w < 0x100000000 →
     reading_of r ≡ read_lent cs bs ps c w → reading_of r ≡ read_lawful c w
 read_lent_lem cs bs ps c w r t h e = (rw (t.classes_right, t.bases_right, t.packs_right) at e) ∙ lent c w h
 

@@ -22,6 +22,10 @@ use Rattle.words.specs.Packed.{unpack, limit_of, limit_table, option_table, in_l
 use Rattle.words.specs.Words.{flag_in, fits}
 use Rattle.words.proofs.Checks.{alike, alike_is}
 
+-- the lowest digit of a packed number
+pub lowest_digit : (p : ℕ) → p / 1 % 16 ≡ p % 16
+lowest_digit p = omega arith
+
 pub unused_code : (d : ℕ) → d < 16 → is (part_at d) unused ≡ eqb d 0
 unfolding part_at
 unused_code d h = alike_is _ _ (at_every 16 (λ n. alike (is (part_at n) unused) (eqb n 0)) d tt h)
@@ -88,6 +92,10 @@ option_moved c n i b e h = rw e h
 pub option_past : (c : Config) (n : ℕ) → 10 ≤ n → false ≡ test (available c (option_at n))
 unfolding available option_at
 option_past c n h = sym (ap (λ o. test (available c o)) (get_or-eq_default options never h))
+
+pub range_here : (c : Config) (l : List ℕ) (d v : ℕ) → l ≡ limit_table c → d < 16 → test (in_limit l c d v) ≡ test (in_range c (part_at d) v)
+unfolding in_limit part_code
+range_here c l d v e h = range_code c l d v e h
 
 -- by lent tables
 

@@ -8,21 +8,22 @@ use mathlib.Core.List.{List}
 use native.Mathlib.Omega.{arith}
 use lib.Dec.{ltb, ltb→lt}
 use lib.ListN.{get_or}
+use Rattle.std.specs.Prelude.{Ok}
 use Rattle.laws.specs.Choice.{pick, true_is}
 use Rattle.laws.specs.Table.{value_at}
 use Rattle.laws.specs.Test.{Holds, and_left, and_right}
 use Rattle.words.specs.declared.Config.{Config}
 use Rattle.words.specs.declared.Instruction.{Instruction}
-use Rattle.words.specs.declared.Reading.TheVariants.{Decoded}
 use Rattle.words.specs.Answers.{reading_of}
 use Rattle.words.specs.Configs.{lawful}
 use Rattle.words.specs.Classes.{class_of, row_of}
 use Rattle.words.specs.Words.{answered, parts_by, parts_of, read_by, read_lawful}
-use Rattle.words.specs.Packed.{Tables, number_lent, parts_lent}
+use Rattle.words.specs.Packed.{Tables, class_table, base_table, row_table, number_lent, parts_lent}
 use Rattle.words.specs.Claims.{understood}
 use Rattle.words.specs.Lookup.{entry_at, entry_table, entry_of, check_at, upper_limit, lower_limit, uppers, lowers, within_limits, Quick, below_lent, Limits}
 use Rattle.words.proofs.ClassesExact.{class_at}
 use Rattle.words.proofs.Packed.{row_lent_lem}
+use Rattle.words.proofs.Statics.{own_tables, own_limits}
 use Rattle.words.proofs.Lookup.{quick, row_few}
 
 -- what stands in the tables
@@ -67,17 +68,22 @@ module _ (cs bs ps es us ls : List ℕ) (c : Config) (w n : ℕ) (t : Tables cs 
   unfolding number_lent
   row_here = row ∙ rw t.classes_right (ap (λ x. row_of x (w % 0x800000)) (class_at (w / 0x800000) (omega arith)))
 
-  parts_here : parts_lent bs ps c n w ≡ parts_of c w
+  pub parts_here : parts_lent bs ps c n w ≡ parts_of c w
   unfolding parts_lent parts_of parts_by
   parts_here = rw (t.bases_right, t.packs_right, row_lent_lem n, row_here)
 
-  pub quick_lent : Holds (lawful c) → below_lent es us ls n w ≡ true → (i : Instruction) → i ≡ parts_lent bs ps c n w → reading_of (Decoded i) ≡ read_lawful c w
+  pub quick_lent : Holds (lawful c) → below_lent es us ls n w ≡ true → (i : Instruction) → i ≡ parts_lent bs ps c n w → reading_of (Ok i) ≡ read_lawful c w
   unfolding reading_of
   quick_lent h b i e =
       let q = within_quick c w (sym (passes c w n small row_here) ∙ (rw (l.entries_right, l.uppers_right, l.lowers_right) at b)) in
       ap understood (e ∙ parts_here) ∙ sym (quick c w h small q)
 
   -- and so is every word that can be read
-  pub read_parts : (read_lawful c w).number ≡ 0 → (i : Instruction) → i ≡ parts_lent bs ps c n w → reading_of (Decoded i) ≡ read_lawful c w
+  pub read_parts : (read_lawful c w).number ≡ 0 → (i : Instruction) → i ≡ parts_lent bs ps c n w → reading_of (Ok i) ≡ read_lawful c w
   unfolding reading_of
   read_parts z i e = ap understood (e ∙ parts_here) ∙ sym (read_zero c w z)
+
+-- by this crate's tables
+pub own_parts : (c : Config) (w n : ℕ) (i : Instruction) → w < 0x100000000 → n ≡ number_lent class_table w →
+    i ≡ parts_lent base_table row_table c n w → i ≡ parts_of c w
+own_parts c w n i h e f = f ∙ parts_here _ _ _ entry_table (uppers c) (lowers c) c w n own_tables (own_limits c) h e

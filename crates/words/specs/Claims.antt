@@ -1,13 +1,12 @@
 -- What is proved of reading and writing words beside the equations: the round trip both ways, and the table of classes. The public calls' contracts
 -- cite these records, so that none can be dropped.
-use Rattle.std.specs.Prelude.{ℕ, ◌+◌, ◌/◌, ◌<◌, ◌≡◌, ◌↔◌, List, [], ◌++◌}
+use Rattle.std.specs.Prelude.{ℕ, ◌+◌, ◌/◌, ◌<◌, ◌≡◌, ◌↔◌, List, [], ◌++◌, Result}
 use Rattle.laws.specs.Test.{Member}
 use Rattle.laws.specs.Choice.{pick}
 use Rattle.laws.specs.Table.{values}
 use Rattle.words.specs.declared.Config.{Config}
 use Rattle.words.specs.declared.Instruction.{Instruction}
-use Rattle.words.specs.declared.Reading.{Reading}
-use Rattle.words.specs.declared.Writing.{Writing}
+use Rattle.words.specs.declared.Refusal.{Refusal}
 use Rattle.words.specs.Parts.{Part, flag, byte, coprocessor, is}
 use Rattle.words.specs.Rows.{Row, row_count, row_at}
 use Rattle.words.specs.Classes.{class_of, named}
@@ -29,12 +28,12 @@ abbrev pub WriteThenRead : Type 0
 WriteThenRead = (c : Config) (i : Instruction) (w : ℕ) → write_of c i ≡ wrote w → read_of c w ≡ understood i
 
 -- what `read_word` promises of its answer r
-pub record Reads (c : Config) (w : ℕ) (r : Reading) : Type 0 where
+pub record Reads (c : Config) (w : ℕ) (r : Result Instruction Refusal) : Type 0 where
   pub answer : reading_of r ≡ read_of c w
   pub back : ReadThenWrite
 
 -- what `write_word` promises of its answer r
-pub record Writes (c : Config) (i : Instruction) (r : Writing) : Type 0 where
+pub record Writes (c : Config) (i : Instruction) (r : Result ℕ Refusal) : Type 0 where
   pub answer : writing_of r ≡ write_of c i
   pub back : WriteThenRead
 

@@ -1,7 +1,6 @@
 -- The tables that code holds: the classes, the rows' bases, and the rows' other columns packed into one
 -- number each. Nothing here is to be believed: proofs/Packed.antt ties it to Rows and Words.
-use Rattle.std.specs.Prelude.{ℕ, ◌+◌, ◌*◌, ◌/◌, ◌%◌, ◌^◌, ◌≡◌, Bool, false, ◌&&◌, List, [], ◌∷◌, eqb, get_or}
-use Rattle.laws.specs.Choice.{pick}
+use Rattle.std.specs.Prelude.{ℕ, ◌+◌, ◌*◌, ◌/◌, ◌%◌, ◌≡◌, Bool, false, ◌&&◌, List, [], ◌∷◌, eqb, get_or}
 use Rattle.laws.specs.First.{first_failing}
 use Rattle.laws.specs.Lists.{column}
 use Rattle.laws.specs.Table.{values}
@@ -12,7 +11,6 @@ use Rattle.words.specs.declared.Facts.{Facts}
 use Rattle.words.specs.Parts.{Part, count, in_range, available}
 use Rattle.words.specs.Kinds.{Kind, marks_of}
 use Rattle.words.specs.Codes.{part_code, part_at, option_code, option_at, weights}
-use Rattle.words.specs.Numbers.{CLZ}
 use Rattle.words.specs.Rows.{Row, rows, row_count, row_at}
 use Rattle.words.specs.Classes.{none, class_of, row_of}
 use Rattle.words.specs.Words.{fields_in, spread, gather, word_from, Read, read_by, Written, written}
@@ -98,16 +96,8 @@ limit_table c = values (λ n. limit_of c (part_at n)) 0 16
 unfoldable pub option_table : Config → List Bool
 option_table c = column (λ n. test (available c (option_at n))) (values (λ n. n) 0 16)
 
--- the row that digit n of a packed number names, counted from CLZ, the row before BST; 0 names none
-abbrev pub digit_row : ℕ → ℕ → ℕ
-digit_row digits n = let d = digits / 2 ^ (4 * n) % 16 in pick (eqb d 0) none (CLZ + d)
-
 unfoldable pub class_table : List ℕ
 class_table = values class_of 0 512
-
--- the classes of keys 8 j to 8 j + 7, a byte each
-unfoldable pub eight_classes : ℕ → ℕ
-eight_classes j = class_of (8 * j) + 256 * (class_of (8 * j + 1) + 256 * (class_of (8 * j + 2) + 256 * (class_of (8 * j + 3) + 256 * (class_of (8 * j + 4) + 256 * (class_of (8 * j + 5) + 256 * (class_of (8 * j + 6) + 256 * class_of (8 * j + 7)))))))
 
 unfoldable pub base_table : List ℕ
 base_table = column (λ (r : Row). r.base) rows

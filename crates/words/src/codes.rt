@@ -32,7 +32,9 @@ pub const BANKS: u32 = 8;
 
 pub const SPR: u32 = 9;
 
-// the weights of the digits, the flag's being the lowest, and of the marks
+// the weights of the digits and of the marks
+
+pub const FLAG_DIGIT: u64 = 0x1;
 
 pub const NUMBER_DIGIT: u64 = 0x10;
 

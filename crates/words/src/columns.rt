@@ -1,7 +1,7 @@
 // The rows as columns of numbers, in the order of specs/Rows.antt. Written by tools/rows.
 
 // The word of each row with all parts zero.
-pub const BASES: [u32; 131] = [
+pub static BASES: [u32; 131] = [
     0x00000000, 0x02800000, 0x03000000, 0x03800000, 0x02000000, 0x08000000, 0x0a800000, 0x0b000000,
     0x0b800000, 0x0a000000, 0x10000000, 0x12800000, 0x13000000, 0x13800000, 0x12000000, 0x18000000,
     0x1a800000, 0x1b000000, 0x1b800000, 0x1a000000, 0x20000000, 0x22800000, 0x23000000, 0x23800000,
@@ -22,7 +22,7 @@ pub const BASES: [u32; 131] = [
 ];
 
 // Each row's entry (specs/Actions.antt); past the rows none, which every word is refused by.
-pub const ENTRIES: [u32; 256] = [
+pub static ENTRIES: [u32; 256] = [
     0x04000001, 0x08000002, 0x08001002, 0x08002002, 0x00000000, 0x0c000001, 0x10000002, 0x10001002,
     0x10002002, 0x00000000, 0x14000001, 0x18000002, 0x18001002, 0x18002002, 0x00000000, 0x1c000001,
     0x20000002, 0x20001002, 0x20002002, 0x00000000, 0x24000001, 0x28000002, 0x28001002, 0x28002002,
@@ -58,7 +58,7 @@ pub const ENTRIES: [u32; 256] = [
 ];
 
 // Each row's other columns, packed (specs/Packed.antt).
-pub const ROWS: [u64; 131] = [
+pub static ROWS: [u64; 131] = [
     0x0000000001004401,
     0x0000000001070401,
     0x0000000001070401,

@@ -5,85 +5,76 @@ ghost use Rattle.words.specs.Configs.{data_sizes, lawful_image, lawful_registers
 
 use crate::Config;
 
-fn lawful_image(width: u32, size: u32) -> bool
-    ensures { result ≡ test (lawful_image width size) }
-{
-    (width == 32) & ((0 < size) & (size <= 32768))
-}
-
-fn lawful_registers(width: u32, size: u32) -> bool
-    ensures { result ≡ test (lawful_registers width size) }
-{
-    ((width == 8) | ((width == 16) | (width == 32)))
-        & ((size == 8) | ((size == 16) | ((size == 32) | ((size == 64) | (size == 128)))))
-}
-
-fn lawful_banks(width: u32, size: u32, rm: u32) -> bool
-    ensures { result ≡ test (lawful_banks width size rm) }
-{
-    (rm == size)
-        | ((width == 32)
-            & ((2 * (size as u64) <= rm as u64)
-                & ((rm == 16)
-                    | ((rm == 32)
-                        | ((rm == 64)
-                            | ((rm == 128) | ((rm == 256) | ((rm == 512) | (rm == 1024)))))))))
-}
-
-// Whether d is 0 or a power of two from 2 to 32,768: such a number has no bit in common with the number before it. 2^32 is added, so that nothing is taken
-// from 0.
+// Whether d is 0 or a power of two from 2 to 32,768: such a number has at most one bit.
 fn data_size(d: u32) -> bool
     ensures { result ≡ member d data_sizes }
 {
-    let x = d as u64;
-    (d <= 32768) & ((d != 1) & ((x & (x + 4294967295)) == 0))
+    (d <= 32768) & ((d != 1) & (d.count_ones() <= 1))
 }
 
-fn lawful_memory(stack: u32, dm: u32, pipe: u32) -> bool
-    ensures { result ≡ test (lawful_memory stack dm pipe) }
-{
-    (0 < stack) & ((stack <= 64) & (data_size(dm) & (pipe <= 2)))
-}
-
-fn lawful_options(width: u32, level: u32, mult: u32, spr: u32, ports: u32, rmw: u32) -> bool
-    ensures { result ≡ test (lawful_options width level mult spr ports rmw) }
-{
-    (level <= 2)
-        & ((!(0 < level) | (16 <= width))
-            & ((mult <= 1) & ((spr <= 1) & ((ports <= 1) & (rmw <= ports)))))
-}
-
-fn lawful_rest(clk: u32, sreg3: u32, three: u32, irq: u32, copm: u32, dbg: u32) -> bool
-    ensures { result ≡ test (lawful_rest clk sreg3 three irq copm dbg) }
-{
-    (clk <= 1023) & ((sreg3 <= 65535) & ((three == 0) & ((irq == 0) & ((copm == 0) & (dbg == 0)))))
-}
-
+// A size is compared with each of its values: by `matches!` a look at a configuration takes some 25 instructions more.
 impl Config {
+    fn has_lawful_image(&self) -> bool
+        ensures { result ≡ test (lawful_image self.now.imwidth self.now.imsize) }
+    {
+        (self.imwidth == 32) & ((0 < self.imsize) & (self.imsize <= 32768))
+    }
+
+    fn has_lawful_registers(&self) -> bool
+        ensures { result ≡ test (lawful_registers self.now.regwidth self.now.regsize) }
+    {
+        ((self.regwidth == 8) | ((self.regwidth == 16) | (self.regwidth == 32)))
+            & ((self.regsize == 8)
+                | ((self.regsize == 16)
+                    | ((self.regsize == 32) | ((self.regsize == 64) | (self.regsize == 128)))))
+    }
+
+    fn has_lawful_banks(&self) -> bool
+        ensures { result ≡ test (lawful_banks self.now.regwidth self.now.regsize self.now.rmsize) }
+    {
+        (self.rmsize == self.regsize)
+            | ((self.regwidth == 32)
+                & ((2 * (self.regsize as u64) <= self.rmsize as u64)
+                    & ((self.rmsize == 16)
+                        | ((self.rmsize == 32)
+                            | ((self.rmsize == 64)
+                                | ((self.rmsize == 128)
+                                    | ((self.rmsize == 256)
+                                        | ((self.rmsize == 512) | (self.rmsize == 1024)))))))))
+    }
+
+    fn has_lawful_memory(&self) -> bool
+        ensures { result ≡ test (lawful_memory self.now.pcstack self.now.dmsize self.now.dmpipe) }
+    {
+        (0 < self.pcstack) & ((self.pcstack <= 64) & (data_size(self.dmsize) & (self.dmpipe <= 2)))
+    }
+
+    fn has_lawful_options(&self) -> bool
+        ensures { result ≡ test (lawful_options self.now.regwidth self.now.alulevel self.now.alumult self.now.aluspr self.now.iopif self.now.ioprmw) }
+    {
+        (self.alulevel <= 2)
+            & ((!(0 < self.alulevel) | (16 <= self.regwidth))
+                & ((self.alumult <= 1)
+                    & ((self.aluspr <= 1) & ((self.iopif <= 1) & (self.ioprmw <= self.iopif)))))
+    }
+
+    fn has_lawful_rest(&self) -> bool
+        ensures { result ≡ test (lawful_rest self.now.yamclk self.now.yamsreg3 self.now.alu3op self.now.irqif self.now.copmsize self.now.yamdbg) }
+    {
+        (self.yamclk <= 1023)
+            & ((self.yamsreg3 <= 65535)
+                & ((self.alu3op == 0)
+                    & ((self.irqif == 0) & ((self.copmsize == 0) & (self.yamdbg == 0)))))
+    }
+
     // Whether the configuration keeps document 01's rules; where it does not, it is refused with 1.
     pub fn lawful(self) -> bool
         ensures { result ≡ test (lawful self) }
     {
-        let image = lawful_image(self.imwidth, self.imsize);
-        let registers = lawful_registers(self.regwidth, self.regsize);
-        let banks = lawful_banks(self.regwidth, self.regsize, self.rmsize);
-        let memory = lawful_memory(self.pcstack, self.dmsize, self.dmpipe);
-        let options = lawful_options(
-            self.regwidth,
-            self.alulevel,
-            self.alumult,
-            self.aluspr,
-            self.iopif,
-            self.ioprmw,
-        );
-        let rest = lawful_rest(
-            self.yamclk,
-            self.yamsreg3,
-            self.alu3op,
-            self.irqif,
-            self.copmsize,
-            self.yamdbg,
-        );
-        image & (registers & (banks & (memory & (options & rest))))
+        self.has_lawful_image()
+            & (self.has_lawful_registers()
+                & (self.has_lawful_banks()
+                    & (self.has_lawful_memory()
+                        & (self.has_lawful_options() & self.has_lawful_rest()))))
     }
 }

@@ -1,6 +1,7 @@
 // Reading a word: refusals 1, 5, 6, 7, or the instruction.
-ghost use Rattle.std.specs.Prelude.{◌≡◌, ◌-◌, ◌/◌, ◌%◌, ◌<◌};
-ghost use Rattle.words.specs.Answers.{reading_of, judged};
+ghost use Rattle.std.specs.Prelude.{◌≡◌, ◌/◌, ◌%◌, ◌<◌};
+ghost use Rattle.words.specs.Answers.{reading_of};
+ghost use Rattle.words.specs.declared.Config.{Config};
 ghost use Rattle.words.specs.Claims.{Reads};
 ghost use Rattle.words.specs.Classes.{class_of, row_of};
 ghost use Rattle.words.specs.Lookup.{below_lent};
@@ -9,26 +10,21 @@ ghost use Rattle.words.specs.Codes.{part_at};
 ghost use Rattle.words.specs.Packed.{unpack, number_lent, parts_lent, read_lent};
 ghost use Rattle.words.specs.Words.{flag_in, fields_in, spread, read_lawful};
 
-use crate::rows::{base_at, class_at, digit, flag_digit, limit_at, packed_at, pick, row_of};
-use crate::single::{base_of, class_of, packed_of};
-use crate::verdict::{available_in, parts_fit};
-use crate::{Config, Fields, Instruction, Reading, Refusal, codes, layout, numbers};
+use crate::classes::CLASSES;
+use crate::columns::{BASES, ROWS};
+use crate::rows::{at_or, digit, named_at, pick, row_of};
+use crate::tables::limit_table;
+use crate::verdict::{available_in, fits_lent, judge, parts_fit};
+use crate::{Config, Fields, Instruction, Refusal, codes, layout, numbers};
 
 // Bits 31-23, which choose the row; what lies below are bits 22-0.
 const KEY: u32 = 0x800000;
-
-// a less b, or 0 where b is the larger.
-fn less(a: u32, b: u32) -> u32
-    ensures { result ≡ a - b }
-{
-    if b <= a { a - b } else { 0 }
-}
 
 // Bit 26 of key k, where the row has a flag.
 fn flag_in(p: u64, k: u32) -> u32
     ensures { (result ≡ flag_in (part_at (p % 16)) k) × (result < 2) }
 {
-    let holds = flag_digit(p);
+    let holds = digit(p, codes::FLAG_DIGIT);
     if holds == codes::FLAG { k / 8 % 2 } else { 0 }
 }
 
@@ -36,9 +32,9 @@ fn flag_in(p: u64, k: u32) -> u32
 fn fields_in(c: Config, n: u32, base: u32, p: u64, k: u32, f: u32) -> Fields
     ensures { result ≡ fields_in c n (unpack base p unsupported) k f }
 {
-    let rest = less(f, base % KEY);
+    let rest = f.saturating_sub(base % KEY);
     let flag = flag_in(p, k);
-    let number = less(k, base / KEY + 8 * flag);
+    let number = k.saturating_sub(base / KEY + 8 * flag);
     let holds = digit(p, codes::VALUE_DIGIT);
     let high = rest / layout::UPPER;
     let low = rest % layout::UPPER;
@@ -57,49 +53,41 @@ fn fields_in(c: Config, n: u32, base: u32, p: u64, k: u32, f: u32) -> Fields
 }
 
 // The instruction's parts, from the word's fields.
-fn spread_fields(c: Config, s: Fields) -> Instruction
-    ensures { result ≡ spread c s }
-{
-    Instruction {
-        row: s.row,
-        flag: s.flag,
-        destination: s.upper,
-        source: s.lower,
-        number: s.number,
-        value: s.value,
-    }
-}
+impl From<Fields> for Instruction {
+    ghost from_gives = { λ s i. (c : Config) → i ≡ spread c s };
 
-// The answer where a row is known, its option there, and its parts in range.
-fn judge(known: bool, there: bool, fit: bool, i: Instruction) -> Reading
-    ensures { reading_of result ≡ judged known there fit i }
-{
-    if !known {
-        return Reading::Refused(Refusal::NoRow);
+    fn from(s: Fields) -> Instruction {
+        Instruction {
+            row: s.row,
+            flag: s.flag,
+            destination: s.upper,
+            source: s.lower,
+            number: s.number,
+            value: s.value,
+        }
     }
-    if !there {
-        return Reading::Refused(Refusal::Unavailable);
-    }
-    if !fit {
-        return Reading::Refused(Refusal::OutOfRange);
-    }
-    Reading::Decoded(i)
 }
 
 // Reading by lent tables, without a look at refusal 1: for callers that hold the tables and have validated the configuration. Whatever the tables
 // hold, the answer is `read_lent` of them; with the tables of this crate that is `read_lawful` (proofs/Packed.antt, `lent`).
-pub fn read_word_lent(classes: &[u8], bases: &[u32], packs: &[u64], c: Config, w: u32) -> Reading
+pub fn read_word_lent(
+    classes: &[u8],
+    bases: &[u32],
+    packs: &[u64],
+    c: Config,
+    w: u32,
+) -> Result<Instruction, Refusal>
     ensures { reading_of result ≡ read_lent classes.now bases.now packs.now c w }
 {
-    let k = w / KEY;
-    let f = w % KEY;
-    let n = row_of(class_at(classes, k), f);
-    let base = base_at(bases, n);
-    let p = packed_at(packs, n);
-    let i = spread_fields(c, fields_in(c, n, base, p, k, f));
+    let n = row_lent(classes, w);
+    if n >= numbers::ROW_COUNT {
+        return Err(Refusal::NoRow);
+    }
+    let p = at_or(packs, n, codes::NO_ROW);
+    let i = parts_lent(bases, packs, c, n, w);
     let there = available_in(c, digit(p, codes::OPTION_DIGIT));
-    let fit = parts_fit(c, p, i);
-    judge(n < numbers::ROW_COUNT, there, fit, i)
+    judge(there, parts_fit(c, p, i))?;
+    Ok(i)
 }
 
 // The quick way by lent tables, in three calls, for callers that read many words: a word below the limits of its row's check is read, and has these parts
@@ -110,62 +98,56 @@ pub fn read_word_lent(classes: &[u8], bases: &[u32], packs: &[u64], c: Config, w
 pub fn row_lent(classes: &[u8], w: u32) -> u32
     ensures { result ≡ number_lent classes.now w }
 {
-    row_of(class_at(classes, w / KEY), w % KEY)
+    row_of(named_at(classes, w / KEY), w % KEY)
 }
 
 // Whether word w, of row n, is below the two limits of its check.
 pub fn below_limits(entries: &[u32], uppers: &[u64], lowers: &[u64], n: u32, w: u32) -> bool
     ensures { result ≡ below_lent entries.now uppers.now lowers.now n w }
 {
-    let t = base_at(entries, n) % 64;
+    let t = at_or(entries, n, 0) % 64;
     let upper = (w / layout::UPPER % layout::UPPER_VALUES) as u64;
     let lower = (w % layout::UPPER) as u64;
-    (upper < limit_at(uppers, t)) & (lower < limit_at(lowers, t))
+    (upper < at_or(uppers, t, 0)) & (lower < at_or(lowers, t, 0))
 }
 
 // The parts of word w, of row n.
 pub fn parts_lent(bases: &[u32], packs: &[u64], c: Config, n: u32, w: u32) -> Instruction
     ensures { result ≡ parts_lent bases.now packs.now c n w }
 {
-    let base = base_at(bases, n);
-    let p = packed_at(packs, n);
-    spread_fields(c, fields_in(c, n, base, p, w / KEY, w % KEY))
+    let base = at_or(bases, n, 0);
+    let p = at_or(packs, n, codes::NO_ROW);
+    Instruction::from(fields_in(c, n, base, p, w / KEY, w % KEY))
 }
 
 // The row of a single word.
 pub fn row_of_word(w: u32) -> u32
     ensures { result ≡ row_of (class_of (w / 0x800000)) (w % 0x800000) }
 {
-    row_of(class_of(w / KEY), w % KEY)
+    row_lent(&CLASSES, w)
 }
 
 // Reading without a look at refusal 1.
-// A word of no row is refused first: after that `base_of` and `packed_of` compile to plain tables.
-fn read_word_lawful(c: Config, w: u32) -> Reading
+fn read_lawful(c: Config, w: u32) -> Result<Instruction, Refusal>
     ensures { reading_of result ≡ read_lawful c w }
 {
-    let k = w / KEY;
-    let f = w % KEY;
-    let n = row_of(class_of(k), f);
-    if n < numbers::ROW_COUNT {
-        let base = base_of(n);
-        let p = packed_of(n);
-        let i = spread_fields(c, fields_in(c, n, base, p, k, f));
-        let there = available_in(c, digit(p, codes::OPTION_DIGIT));
-        let fit = parts_fit(c, p, i);
-        judge(true, there, fit, i)
-    } else {
-        Reading::Refused(Refusal::NoRow)
+    let n = row_of_word(w);
+    if n >= numbers::ROW_COUNT {
+        return Err(Refusal::NoRow);
     }
+    let p = at_or(&ROWS, n, codes::NO_ROW);
+    let instruction = parts_lent(&BASES, &ROWS, c, n, w);
+    let there = available_in(c, digit(p, codes::OPTION_DIGIT));
+    judge(there, fits_lent(&limit_table(c), c, p, instruction))?;
+    Ok(instruction)
 }
 
 // What a word says: the instruction, or the refusal. Where it is an instruction, writing that gives the word.
-pub fn read_word(c: Config, w: u32) -> Reading
+pub fn read_word(c: Config, w: u32) -> Result<Instruction, Refusal>
     ensures { Reads c w result }
 {
-    if c.lawful() {
-        read_word_lawful(c, w)
-    } else {
-        Reading::Refused(Refusal::Unlawful)
+    if !c.lawful() {
+        return Err(Refusal::Unlawful);
     }
+    read_lawful(c, w)
 }

@@ -16,20 +16,23 @@ pub mod layout;
 mod limits;
 mod meaning;
 mod numbers;
+mod reader;
 mod rows;
-mod single;
 mod tables;
 mod verdict;
+mod writer;
 
 pub use decode::{below_limits, parts_lent, read_word, read_word_lent, row_lent, row_of_word};
 pub use encode::{write_word, write_word_lent};
 pub use entries::{entry_table, lower_limits, upper_limits};
 pub use limits::within_limits;
 pub use meaning::{facts_in, packed_lent};
+pub use reader::Reader;
 pub use tables::{base_table, class_table, limit_table, option_table, row_table};
+pub use writer::Writer;
 
 // A configuration of the core: the manual's generics under their names, in the order of document 01.
-#[derive(Clone, Copy)]
+#[derive(Clone, Copy, Default)]
 pub struct Config {
     pub imwidth: u32,
     pub imsize: u32,
@@ -116,12 +119,12 @@ struct WordLimits {
 }
 
 // Document 01's numbers 1, 5, 6 and 7.
-#[derive(Clone, Copy)]
+#[derive(Clone, Copy, Debug, PartialEq, Eq)]
 pub enum Refusal {
-    Unlawful,
-    NoRow,
-    Unavailable,
-    OutOfRange,
+    Unlawful = 1,
+    NoRow = 5,
+    Unavailable = 6,
+    OutOfRange = 7,
 }
 
 impl Refusal {
@@ -129,25 +132,8 @@ impl Refusal {
     pub fn number(self) -> u32
         ensures { result ≡ refusal_number self }
     {
-        match self {
-            Refusal::Unlawful => 1,
-            Refusal::NoRow => 5,
-            Refusal::Unavailable => 6,
-            Refusal::OutOfRange => 7,
-        }
+        self as u32
     }
-}
-
-#[derive(Clone, Copy)]
-pub enum Reading {
-    Decoded(Instruction),
-    Refused(Refusal),
-}
-
-#[derive(Clone, Copy)]
-pub enum Writing {
-    Encoded(u32),
-    Refused(Refusal),
 }
 
 // What rules, stops, cycles and text ask of an instruction (specs/Facts.antt).

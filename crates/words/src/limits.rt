@@ -1,16 +1,10 @@
 // What a word stays below by its check (specs/Lookup.antt): the limits of one check, and whether a word is below them. The tables of src/entries.rt give all
 // limits to a caller that reads many words.
 ghost use Rattle.std.specs.Prelude.{◌≡◌};
-ghost use Rattle.laws.specs.Choice.{pick as choice};
 ghost use Rattle.words.specs.Lookup.{check_at, upper_limit, lower_limit, within_limits};
 
+use crate::rows::pick;
 use crate::{Config, WordLimits, layout};
-
-fn pick(b: bool, x: u64, y: u64) -> u64
-    ensures { result ≡ choice b x y }
-{
-    if b { x } else { y }
-}
 
 fn limits(upper: u64, lower: u64) -> WordLimits
     ensures { (result.upper ≡ upper) × (result.lower ≡ lower) }

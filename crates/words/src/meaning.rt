@@ -2,31 +2,31 @@
 ghost use Rattle.std.specs.Prelude.{◌≡◌, get_or};
 ghost use Rattle.words.specs.Packed.{no_packed, facts_in};
 
-use crate::rows::packed_at;
+use crate::rows::at_or;
 use crate::{Facts, codes};
 
 // The facts in a row's packed number.
 pub fn facts_in(p: u64) -> Facts
     ensures { result ≡ facts_in p }
 {
-    let m = p / codes::MARKS;
+    let marked = |weight: u64| p / codes::MARKS / weight % 2 == 1;
     Facts {
-        next: m / codes::GOES_ON % 2 == 1,
-        target: m / codes::JUMPS % 2 == 1,
-        calls: m / codes::CALLS % 2 == 1,
-        returns: m / codes::RETURNS % 2 == 1,
-        enters: m / codes::ENTERS_MODE % 2 == 1,
-        leaves: m / codes::LEAVES_MODE % 2 == 1,
-        reveals: m / codes::REVEALS % 2 == 1,
-        input: m / codes::READS_PORT % 2 == 1,
-        output: m / codes::WRITES_PORT % 2 == 1,
-        load: m / codes::LOADS % 2 == 1,
-        store: m / codes::STORES % 2 == 1,
-        indirect: m / codes::BY_REGISTER % 2 == 1,
-        tobank: m / codes::ENTERS_BANK % 2 == 1,
-        frombank: m / codes::LEAVES_BANK % 2 == 1,
-        barred: m / codes::BARRED % 2 == 1,
-        index: m / codes::BY_INDEX % 2 == 1,
+        next: marked(codes::GOES_ON),
+        target: marked(codes::JUMPS),
+        calls: marked(codes::CALLS),
+        returns: marked(codes::RETURNS),
+        enters: marked(codes::ENTERS_MODE),
+        leaves: marked(codes::LEAVES_MODE),
+        reveals: marked(codes::REVEALS),
+        input: marked(codes::READS_PORT),
+        output: marked(codes::WRITES_PORT),
+        load: marked(codes::LOADS),
+        store: marked(codes::STORES),
+        indirect: marked(codes::BY_REGISTER),
+        tobank: marked(codes::ENTERS_BANK),
+        frombank: marked(codes::LEAVES_BANK),
+        barred: marked(codes::BARRED),
+        index: marked(codes::BY_INDEX),
     }
 }
 
@@ -34,5 +34,5 @@ pub fn facts_in(p: u64) -> Facts
 pub fn packed_lent(packs: &[u64], n: u32) -> u64
     ensures { result ≡ get_or packs.now n no_packed }
 {
-    packed_at(packs, n)
+    at_or(packs, n, codes::NO_ROW)
 }

@@ -1,19 +1,20 @@
 -- `words::Refusal::number` meets its contract. Assumes nothing.
+use Rattle.std.proofs.Common.{rules}
 use Rattle.words.specs.Answers.{refusal_number}
 use Rattle.words.proofs.Refusal.number.Goals as goal
 
-pub returns-in-Unlawful : goal.returns-in-Unlawful
+pub returns : goal.returns
 unfolding refusal_number
-returns-in-Unlawful c = rw c.in-Unlawful.is
+returns c = search rules
 
-pub returns-in-NoRow : goal.returns-in-NoRow
+pub returns-2 : goal.returns-2
 unfolding refusal_number
-returns-in-NoRow c = rw c.in-NoRow.is
+returns-2 c = search rules
 
-pub returns-in-Unavailable : goal.returns-in-Unavailable
+pub returns-3 : goal.returns-3
 unfolding refusal_number
-returns-in-Unavailable c = rw c.in-Unavailable.is
+returns-3 c = search rules
 
-pub returns-in-OutOfRange : goal.returns-in-OutOfRange
+pub returns-4 : goal.returns-4
 unfolding refusal_number
-returns-in-OutOfRange c = rw c.in-OutOfRange.is
+returns-4 c = search rules

@@ -4,4 +4,4 @@ use Rattle.words.proofs.decode.below_limits.Goals as goal
 
 pub returns : goal.returns
 unfolding below_lent
-returns c = rw (c.limit_at-2.ensures, c.limit_at.ensures, c.base_at-t.ensures)
+returns c = rw (c.at_or-2.ensures, c.at_or.ensures, c.at_or-t.ensures)

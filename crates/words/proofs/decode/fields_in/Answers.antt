@@ -54,4 +54,4 @@ laid c n base p k f rest flag number h upper lower v value er ef en eh eupper el
     rw (evalue, ev, elower, eupper, upper_by (eqb h 0) (eqb h 10) rest t, lower_by (eqb h 0) (eqb h 10) rest, value_by (eqb h 0) (eqb h 10) rest t, en, ef, eh, er, ← unused_code (p / 0x10000 % 16) (omega arith), ← target_code (p / 0x10000 % 16) (omega arith))
 
 pub returns : goal.returns
-returns c = laid _ _ _ _ _ _ _ _ _ _ _ _ _ _ c.less-rest.ensures c.flag_in-flag.ensures.0 c.less-number.ensures c.digit-holds.ensures c.pick.ensures c.pick-2.ensures c.pick-3.ensures c.pick-4.ensures
+returns c = laid _ _ _ _ _ _ _ _ _ _ _ _ _ _ c.saturating_sub-rest.ensures c.flag_in-flag.ensures.0 c.saturating_sub-number.ensures c.digit-holds.ensures c.pick.ensures c.pick-2.ensures c.pick-3.ensures c.pick-4.ensures

@@ -4,4 +4,4 @@ use Rattle.words.proofs.decode.row_lent.Goals as goal
 
 pub returns : goal.returns
 unfolding number_lent
-returns c = rw (c.row_of.ensures, c.class_at.ensures)
+returns c = rw (c.row_of.ensures, c.named_at.ensures)

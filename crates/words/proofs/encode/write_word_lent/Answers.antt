@@ -1,12 +1,13 @@
 -- `words::encode::write_word_lent` meets its contract. Assumes nothing.
-use mathlib.Core.Path.{◌∙◌}
-use Rattle.words.specs.Answers.{refusal_number, writing_of}
-use Rattle.words.proofs.Answers.{by_row, no_row}
+use mathlib.Core.Path.{◌∙◌, refl}
+use Rattle.std.proofs.lemmas.Result.{err_from_is_err_and}
+use Rattle.words.proofs.Answers.{by_row, write_refused, write_passed}
 use Rattle.words.proofs.encode.write_word_lent.Goals as goal
 
-pub returns-then-n-lt-ROW_COUNT : goal.returns-then-n-lt-ROW_COUNT
-returns-then-n-lt-ROW_COUNT c = c.judge.ensures ∙ by_row _ _ _ _ _ _ _ _ _ _ _ _ c.if-n-lt-ROW_COUNT.true c.base_at-base.ensures c.packed_at-p.ensures c.gather_parts.ensures c.word_from-w.ensures (rw c.digit.ensures at c.option_lent-there.ensures) c.fits_lent-fit.ensures
+pub returns-in_err-allow : goal.returns-in_err-allow
+returns-in_err-allow c =
+    let p = err_from_is_err_and c.from_residual.result c.from_residual.ensures.1 in
+    rw (p.1, p.2) (write_refused _ _ _ c.in_err-allow.ensures ∙ by_row _ _ _ _ _ _ _ _ _ refl refl refl)
 
-pub returns-else-n-lt-ROW_COUNT : goal.returns-else-n-lt-ROW_COUNT
-unfolding writing_of refusal_number
-returns-else-n-lt-ROW_COUNT c = no_row _ _ _ _ _ _ c.if-n-lt-ROW_COUNT.false
+pub returns : goal.returns
+returns c = write_passed _ _ _ c.in_ok-allow.ensures ∙ by_row _ _ _ _ _ _ _ _ _ c.at_or.ensures (c.from.ensures c.args.c) c.word_from.ensures

@@ -4,8 +4,8 @@ use Rattle.words.proofs.rows.pick.Goals as goal
 
 pub returns-then-b : goal.returns-then-b
 unfolding pick
-returns-then-b c = rw c.if-b.true
+returns-then-b g c = rw c.if-b.true
 
 pub returns-else-b : goal.returns-else-b
 unfolding pick
-returns-else-b c = rw c.if-b.false
+returns-else-b g c = rw c.if-b.false

@@ -1,33 +1,43 @@
 -- `words::rows::row_of` meets its contract. Assumes nothing.
+use native.Mathlib.Omega.{arith}
 use Rattle.laws.specs.Choice.{pick}
 use borrow.Author.Tests.{lt-ltb, le-ltb, ne_eqb}
 use Rattle.words.specs.Classes.{choices, field_of, code_at, row_in, row_of}
+use Rattle.words.proofs.Lists.{byte_codes, index_codes, misc_codes}
 use Rattle.words.proofs.rows.row_of.Goals as goal
 
 pub returns-then-c-lt-INDEX : goal.returns-then-c-lt-INDEX
 unfolding choices field_of code_at row_in row_of pick
-returns-then-c-lt-INDEX c = simp (lt-ltb _ _ c.if-c-lt-INDEX.true)
+returns-then-c-lt-INDEX c = simp (lt-ltb c.args.c 240 (omega arith))
 
-pub returns-then-c-eq-INDEX : goal.returns-then-c-eq-INDEX
+pub returns-in-240 : goal.returns-in-240
 unfolding choices field_of code_at row_in row_of pick
-returns-then-c-eq-INDEX c = rw (c.index_row.ensures, c.if-c-eq-INDEX.true)
+returns-in-240 c = rw (c.named_at.ensures, index_codes _, c.in-240.is)
 
-pub returns-then-c-eq-MISC : goal.returns-then-c-eq-MISC
+pub returns-in-241 : goal.returns-in-241
 unfolding choices field_of code_at row_in row_of pick
-returns-then-c-eq-MISC c = rw (c.misc_row.ensures, c.if-c-eq-MISC.true)
+returns-in-241 c = rw (c.named_at-in-241.ensures, byte_codes _, c.in-241.is)
 
-pub returns-then-c-eq-PORT : goal.returns-then-c-eq-PORT
+pub returns-in-242 : goal.returns-in-242
 unfolding choices field_of code_at row_in row_of pick
-returns-then-c-eq-PORT c = rw (c.port_row.ensures, c.if-c-eq-PORT.true)
+returns-in-242 c = rw (c.port_row.ensures, c.in-242.is)
 
-pub returns-then-c-eq-UPPER_BYTES : goal.returns-then-c-eq-UPPER_BYTES
+pub returns-in-243 : goal.returns-in-243
 unfolding choices field_of code_at row_in row_of pick
-returns-then-c-eq-UPPER_BYTES c = rw (c.byte_row.ensures, c.if-c-eq-UPPER_BYTES.true)
+returns-in-243 c = rw (c.mask_row.ensures, c.in-243.is)
 
-pub returns-then-c-eq-IRQ_SWITCH : goal.returns-then-c-eq-IRQ_SWITCH
+pub returns-in-244 : goal.returns-in-244
 unfolding choices field_of code_at row_in row_of pick
-returns-then-c-eq-IRQ_SWITCH c = rw (c.mask_row.ensures, c.if-c-eq-IRQ_SWITCH.true)
+returns-in-244 c = rw (c.named_at-in-244.ensures, misc_codes _, c.in-244.is)
 
-pub returns : goal.returns
+pub returns-in_default : goal.returns-in_default
 unfolding choices field_of code_at row_in row_of pick
-returns c = simp (le-ltb _ _ c.if-c-lt-INDEX.false, ne_eqb _ _ c.if-c-eq-INDEX.false, ne_eqb _ _ c.if-c-eq-MISC.false, ne_eqb _ _ c.if-c-eq-PORT.false, ne_eqb _ _ c.if-c-eq-UPPER_BYTES.false, ne_eqb _ _ c.if-c-eq-IRQ_SWITCH.false)
+returns-in_default c =
+    simp (
+      le-ltb c.args.c 240 (omega arith),
+      ne_eqb c.args.c 240 (omega arith),
+      ne_eqb c.args.c 241 (omega arith),
+      ne_eqb c.args.c 242 (omega arith),
+      ne_eqb c.args.c 243 (omega arith),
+      ne_eqb c.args.c 244 (omega arith),
+    )

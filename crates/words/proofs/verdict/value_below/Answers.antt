@@ -6,4 +6,4 @@ use Rattle.words.proofs.verdict.value_below.Goals as goal
 
 pub returns : goal.returns
 unfolding in_limit part_code
-returns c = refl
+returns c = rw c.below.ensures refl
