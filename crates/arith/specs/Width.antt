@@ -32,3 +32,7 @@ top w a = nat_le (half w) a
 -- a result whose Z says that it is zero (4.5)
 abbrev pub word_of : ℕ → ℕ → Word
 word_of v n = record { value = v; z = one (v == 0); n = n }
+
+-- a result whose flags two tests set
+abbrev pub flagged : ℕ → Bool → Bool → Word
+flagged v z n = record { value = v; z = one z; n = one n }

@@ -1,49 +1,51 @@
-// Byte store and byte load: manual 5.3.1 to 5.3.3. k is the byte number.
-ghost use Rattle.std.specs.Prelude.{◌≡◌, ◌<◌, ◌≤◌};
-ghost use Rattle.arith.specs.Width.{Width};
+// Byte store and byte load: manual 5.3.1 to 5.3.3. k is the byte number, modulo 4.
+ghost use Rattle.std.specs.Prelude.{◌≡◌, ◌*◌, ◌%◌};
 ghost use Rattle.arith.specs.Bytes.{byte, of_byte, bst_of, bld_of, blds_of, SignExtended};
 
 use super::Word;
-use super::width::{flag, power, truncate, truncate_wide};
-use std::num::wrapping_add_u32;
+use super::width::Width;
 
 // A result whose flags are the source byte's.
 fn of_byte(b: u32, value: u32) -> Word
     ensures { result ≡ of_byte b value }
 {
-    Word {
-        value,
-        z: flag(b == 0),
-        n: flag(128 <= b),
-    }
+    Word::flagged(value, b == 0, 128 <= b)
 }
 
-pub fn bst_word(w: u32, k: u32, d: u32, s: u32) -> Word
-    requires { (w ≤ 32) × (k < 4) }
-    ensures { result ≡ bst_of w k d s }
+// Byte k of s.
+fn byte(s: u32, k: u32) -> u32
+    ensures { result ≡ byte (k % 4) s }
 {
-    let at = 8 * k;
-    let b = s % 256;
-    let kept = d as u64;
-    let above = (kept >> at) / 256 * 256 + (b as u64);
-    let below = kept & (power(at) - 1);
-    of_byte(b, truncate_wide(w, (above << at) | below))
+    (s >> (8 * (k % 4))) % 256
 }
 
-pub fn bld_word(k: u32, s: u32) -> Word
-    requires { k < 4 }
-    ensures { result ≡ bld_of k s }
+#[tactic(auto, unfolding(crate::specs::Bytes::bld_of))]
+pub fn bld(k: u32, s: u32) -> Word
+    ensures { result ≡ bld_of (k % 4) s }
 {
-    let b = (s >> (8 * k)) % 256;
+    let b = byte(s, k);
     of_byte(b, b)
 }
 
-// "the byte with 128 flipped, less 128, at the word width" (document 02, K3): 128 less is 2^w - 128 more, cut to w bits.
-pub fn blds_word(w: u32, k: u32, s: u32) -> Word
-    requires { Width w × (k < 4) }
-    ensures { (result ≡ blds_of w k s) × SignExtended w (byte k s) result.value }
-{
-    let b = (s >> (8 * k)) % 256;
-    let value = truncate(w, wrapping_add_u32(b ^ 128, (power(w) - 128) as u32));
-    of_byte(b, value)
+impl Width {
+    #[tactic(auto, using(crate::proofs::bytes::Laws::bst_code), unfolding(crate::specs::Bytes::bst_of))]
+    pub fn bst(self, k: u32, d: u32, s: u32) -> Word
+        ensures { result ≡ bst_of self.bits (k % 4) d s }
+    {
+        let at = 8 * (k % 4);
+        let b = s % 256;
+        let above = (d >> at) / 256 * 256 + b;
+        let below = d % (1 << at);
+        of_byte(b, self.truncate((above << at) | below))
+    }
+
+    // "the byte with 128 flipped, less 128, at the word width" (document 02, K3): 128 less is 2^w - 128 more, cut to w bits.
+    #[tactic(auto, using(crate::proofs::bytes::Laws::blds_laws), unfolding(crate::specs::Bytes::blds_of, crate::specs::Bytes::extended))]
+    pub fn blds(self, k: u32, s: u32) -> Word
+        ensures { (result ≡ blds_of self.bits (k % 4) s) × SignExtended self.bits (byte (k % 4) s) result.value }
+    {
+        let b = byte(s, k);
+        let value = self.truncate((b ^ 128).wrapping_add((self.power() - 128) as u32));
+        of_byte(b, value)
+    }
 }

@@ -3,8 +3,6 @@
 #![tactic(auto)]
 
 mod bytes;
-mod immediates;
-mod logic;
 mod multiply;
 mod shifts;
 mod sums;
@@ -12,20 +10,14 @@ mod unary;
 mod width;
 
 ghost use Rattle.std.specs.Prelude.{◌≡◌, ◌%◌, ◌^◌};
-ghost use Rattle.arith.specs.Width.{bits};
+ghost use Rattle.arith.specs.Width.{bits, flagged, word_of};
 ghost use Rattle.arith.specs.Alu.{alu_of, Within};
 ghost use Rattle.arith.specs.Multiply.{mul_of};
 ghost use Rattle.arith.specs.Immediates.{immediate_of};
 ghost use Rattle.arith.specs.DoubleSums.{DoubleSums};
 
-use bytes::{bld_word, blds_word, bst_word};
-use immediates::{shifted, sign_extended};
-use logic::{and_word, or_word, xor_word};
-use multiply::mul_word;
-use shifts::{rotl_word, rotr_word, shl_word, shr_word, shra_word};
-use sums::{add_word, sub_word, subs_word};
-use unary::{abs_word, clz_word};
-use width::{bits_of, truncate};
+use bytes::bld;
+use width::Width;
 use words::{Form, Operation};
 
 // A result and the flags that the instruction sets where its bit 26 is 0.
@@ -43,6 +35,32 @@ pub struct Product {
     pub high: u32,
 }
 
+impl Word {
+    // A result whose flags two tests set.
+    #[tactic(auto, using(crate::proofs::width::Laws::flag_is))]
+    fn flagged(value: u32, z: bool, n: bool) -> Word
+        ensures { result ≡ flagged value z n }
+    {
+        Word {
+            value,
+            z: u64::from(z),
+            n: u64::from(n),
+        }
+    }
+
+    // A result whose Z says that it is zero.
+    #[tactic(auto, using(crate::proofs::width::Laws::flag_is))]
+    fn of(value: u32, n: u64) -> Word
+        ensures { result ≡ word_of value n }
+    {
+        Word {
+            value,
+            z: u64::from(value == 0),
+            n,
+        }
+    }
+}
+
 // Every operation but MUL, of the destination d, the source s and the flag N before. For any numbers: a width that is neither
 // 8 nor 16 counts as 32, the operands are taken at the width, n modulo 2 and a byte number modulo 4. ADD and ADDC, SUB and SUBC
 // make double-length sums (document 02, K8).
@@ -50,35 +68,36 @@ pub fn alu(width: u32, op: Operation, d: u32, s: u32, n: u64) -> Word
     ensures answer { result ≡ alu_of (bits width) op (d % 2 ^ bits width) (s % 2 ^ bits width) (n % 2) }
     ensures double_sums { DoubleSums }
 {
-    let w = bits_of(width);
-    alu_within(width, op, truncate(w, d), truncate(w, s), n % 2)
+    let w = Width::of(width);
+    alu_within(width, op, w.truncate(d), w.truncate(s), n % 2)
 }
 
 // The same for operands that are words already, which are not cut again: for others the answer is some word.
+#[tactic(auto, using(crate::proofs::Laws::operand_laws), unfolding(crate::specs::Alu::alu_of, crate::specs::Logic::and_of, crate::specs::Logic::or_of, crate::specs::Logic::xor_of, crate::specs::Width::one, laws::specs::Choice::pick))]
 pub fn alu_within(width: u32, op: Operation, d: u32, s: u32, n: u64) -> Word
     ensures { Within (bits width) d s n → result ≡ alu_of (bits width) op d s n }
 {
-    let w = bits_of(width);
+    let w = Width::of(width);
     match op {
-        Operation::And => and_word(d, s, n),
-        Operation::Or => or_word(d, s, n),
-        Operation::Xor => xor_word(d, s, n),
-        Operation::Add => add_word(w, d, s, 0),
-        Operation::Addc => add_word(w, d, s, n % 2),
-        Operation::Sub => sub_word(w, d, s, 0),
-        Operation::Subc => sub_word(w, d, s, n % 2),
-        Operation::Subs => subs_word(w, d, s),
-        Operation::Shl => shl_word(w, d, s % 16),
-        Operation::Shr => shr_word(w, d, s % 16),
-        Operation::Shra => shra_word(w, truncate(w, d), s % 16),
-        Operation::Rotl => rotl_word(w, s),
-        Operation::Rotr => rotr_word(w, s),
-        Operation::Shl16 => shl_word(w, s, 16),
-        Operation::Abs => abs_word(w, truncate(w, s)),
-        Operation::Clz => clz_word(w, truncate(w, s)),
-        Operation::Bst(k) => bst_word(w, k % 4, d, s),
-        Operation::Bld(k) => bld_word(k % 4, s),
-        Operation::Blds(k) => blds_word(w, k % 4, s),
+        Operation::And => Word::of(d & s, n),
+        Operation::Or => Word::of(d | s, n),
+        Operation::Xor => Word::of(d ^ s, n),
+        Operation::Add => w.add(d, s, false),
+        Operation::Addc => w.add(d, s, n % 2 == 1),
+        Operation::Sub => w.sub(d, s, false),
+        Operation::Subc => w.sub(d, s, n % 2 == 1),
+        Operation::Subs => w.subs(d, s),
+        Operation::Shl => w.shl(d, s % 16),
+        Operation::Shr => w.shr(d, s % 16),
+        Operation::Shra => w.operand(d).shra(s % 16),
+        Operation::Rotl => w.rotl(s),
+        Operation::Rotr => w.rotr(s),
+        Operation::Shl16 => w.shl(s, 16),
+        Operation::Abs => w.operand(s).abs(),
+        Operation::Clz => w.operand(s).clz(),
+        Operation::Bst(k) => w.bst(k, d, s),
+        Operation::Bld(k) => bld(k, s),
+        Operation::Blds(k) => w.blds(k, s),
     }
 }
 
@@ -86,19 +105,24 @@ pub fn alu_within(width: u32, op: Operation, d: u32, s: u32, n: u64) -> Word
 pub fn mul(width: u32, a: u32, b: u32) -> Product
     ensures { result ≡ mul_of (bits width) (a % 2 ^ bits width) (b % 2 ^ bits width) }
 {
-    let w = bits_of(width);
-    mul_word(w, truncate(w, a), truncate(w, b))
+    let w = Width::of(width);
+    w.mul(w.truncate(a), w.truncate(b))
 }
 
-// What an instruction's bits 15 to 0 stand for.
+// What an instruction's bits 15 to 0 stand for (manual 4.4.2). With bit 15 flipped they are above their signed value by 32,768.
+#[tactic(auto, using(crate::proofs::Immediates::immediate_laws), unfolding(crate::specs::Immediates::immediate_of, crate::specs::Immediates::extend_of, laws::specs::Choice::pick))]
 pub fn immediate(width: u32, form: Form, v: u32) -> u32
     ensures { result ≡ immediate_of (bits width) form (v % 65536) }
 {
-    let w = bits_of(width);
+    let w = Width::of(width);
     let x = v % 65536;
     match form {
-        Form::Signed => truncate(w, sign_extended(x)),
-        Form::Unsigned => truncate(w, x),
-        Form::Shifted => shifted(w, x),
+        Form::Signed => w.truncate((x ^ 32768).wrapping_sub(32768)),
+        Form::Unsigned => w.truncate(x),
+        Form::Shifted => if w.bits == 32 {
+            x * 65536
+        } else {
+            w.truncate(x)
+        },
     }
 }

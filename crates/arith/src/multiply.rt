@@ -1,23 +1,24 @@
 // MUL: manual 5.4, and 4.7 for SPR7.
 ghost use Rattle.std.specs.Prelude.{◌≡◌};
-ghost use Rattle.arith.specs.Width.{Width};
 ghost use Rattle.arith.specs.Multiply.{mul_of};
 
 use super::Product;
-use super::width::truncate;
+use super::width::Width;
 
-pub fn mul_word(w: u32, a: u32, b: u32) -> Product
-    requires { Width w }
-    ensures { result ≡ mul_of w a b }
-{
-    let p = (a % 65536) * (b % 65536);
-    let value = truncate(w, p);
-    if w <= 16 {
-        Product {
-            value,
-            high: (p >> w) % 65536,
+impl Width {
+    #[tactic(auto, unfolding(crate::specs::Multiply::mul_of, laws::specs::Choice::pick))]
+    pub fn mul(self, a: u32, b: u32) -> Product
+        ensures { result ≡ mul_of self.bits a b }
+    {
+        let p = (a % 65536) * (b % 65536);
+        let value = self.truncate(p);
+        if self.bits <= 16 {
+            Product {
+                value,
+                high: (p >> self.bits) % 65536,
+            }
+        } else {
+            Product { value, high: 0 }
         }
-    } else {
-        Product { value, high: 0 }
     }
 }

@@ -1,65 +1,71 @@
-// The width, words cut to it, and flags as numbers.
-ghost use Rattle.std.specs.Prelude.{◌≡◌, ◌%◌, ◌^◌, ◌≤◌};
-ghost use Rattle.arith.specs.Width.{bits, Width, half, one, word_of};
+// The width, and words cut to it.
+ghost use Rattle.std.specs.Prelude.{◌≡◌, ◌%◌, ◌^◌, ◌<◌, ◌≤◌};
+ghost use Rattle.arith.specs.Width.{bits as bits_of, half, top};
 
-use super::Word;
+// A width, of 8, 16 or 32 bits.
+#[derive(Clone, Copy)]
+pub struct Width {
+    pub bits: u32,
+    ghost least: { 8 ≤ bits },
+    ghost most: { bits ≤ 32 },
+}
 
-// 8, 16, and 32 for any other number.
-pub fn bits_of(n: u32) -> u32
-    ensures { (result ≡ bits n) × Width result }
-{
-    match n {
-        8 => 8,
-        16 => 16,
-        _ => 32,
+// A word of the width.
+#[derive(Clone, Copy)]
+pub struct Operand {
+    pub width: Width,
+    pub word: u32,
+    ghost fits: { word < 2 ^ width.bits },
+}
+
+impl Width {
+    // 8, 16, and 32 for any other number.
+    #[tactic(auto, unfolding(crate::specs::Width::bits, laws::specs::Choice::pick))]
+    pub fn of(n: u32) -> Width
+        ensures { result.bits ≡ bits_of n }
+    {
+        match n {
+            8 => Width { bits: 8 },
+            16 => Width { bits: 16 },
+            _ => Width { bits: 32 },
+        }
     }
-}
 
-// 2^w.
-pub fn power(w: u32) -> u64
-    requires { w ≤ 32 }
-    ensures { result ≡ 2 ^ w }
-{
-    1 << w
-}
+    // 2^W.
+    pub fn power(self) -> u64
+        ensures { result ≡ 2 ^ self.bits }
+    {
+        1 << self.bits
+    }
 
-// The weight of the top bit.
-pub fn top_bit(w: u32) -> u32
-    requires { Width w }
-    ensures { result ≡ half w }
-{
-    1 << (w - 1)
-}
+    // The weight of the top bit.
+    pub fn top_bit(self) -> u32
+        ensures { result ≡ half self.bits }
+    {
+        1 << (self.bits - 1)
+    }
 
-// The w low bits of x.
-pub fn truncate_wide(w: u32, x: u64) -> u32
-    requires { w ≤ 32 }
-    ensures { result ≡ x % 2 ^ w }
-{
-    (x & (power(w) - 1)) as u32
-}
+    // Whether the top bit of a word is set.
+    pub fn is_negative(self, a: u32) -> bool
+        ensures { result ≡ top self.bits a }
+    {
+        self.top_bit() <= a
+    }
 
-pub fn truncate(w: u32, x: u32) -> u32
-    requires { w ≤ 32 }
-    ensures { result ≡ x % 2 ^ w }
-{
-    truncate_wide(w, x as u64)
-}
+    // The low W bits of x.
+    #[tactic(auto, using(std::proofs::lemmas::Nat::and_mask))]
+    pub fn truncate(self, x: u32) -> u32
+        ensures { result ≡ x % 2 ^ self.bits }
+    {
+        ((x as u64) & (self.power() - 1)) as u32
+    }
 
-// The flag that a test sets.
-pub fn flag(test: bool) -> u64
-    ensures { result ≡ one test }
-{
-    if test { 1 } else { 0 }
-}
-
-// A result whose Z says that it is zero.
-pub fn word_of(value: u32, n: u64) -> Word
-    ensures { result ≡ word_of value n }
-{
-    Word {
-        value,
-        z: flag(value == 0),
-        n,
+    pub fn operand(self, x: u32) -> Operand
+        ensures { (result.width ≡ self) × (result.word ≡ x % 2 ^ self.bits) }
+    {
+        Operand {
+            width: self,
+            word: self.truncate(x),
+        }
     }
 }

@@ -6,7 +6,7 @@ use mathlib.Core.Bool.{Bool, true, false, not, ◌&&◌, ◌||◌}
 use native.Mathlib.Omega.{arith}
 use native.Mathlib.Nat.{lt_of_lt_of_le}
 use borrow.Author.Tests.{ltb-true, ltb-false, eqb-false}
-use lib.Dec.{T, ltb, lt→ltb, eqb, eqb→eq, not_T}
+use lib.Dec.{T, ltb, leb, lt→ltb, leb→le, eqb, eqb→eq, not_T}
 use lib.Pow.{pow_mono}
 use Rattle.laws.specs.Choice.{pick, either, is_true, true_is}
 use Rattle.laws.specs.Test.{Test, most, same, isnt, yes?, no?, if?, ◌and◌, test, Holds, holds, tests, and_both}
@@ -17,7 +17,7 @@ use Rattle.words.specs.declared.Form.{Form}
 use Rattle.words.specs.declared.Form.TheVariants.{Signed, Unsigned, Shifted}
 use Rattle.words.specs.declared.Refusal.{Refusal}
 use Rattle.words.specs.declared.Refusal.TheVariants.{Unlawful, NoRow, Unavailable, OutOfRange}
-use Rattle.words.specs.declared.Reading.TheVariants.{Refused}
+use Rattle.std.specs.Prelude.{Err}
 use Rattle.words.specs.Parts.{never, needs}
 use Rattle.words.specs.Kinds.{marks_of}
 use Rattle.words.specs.Kinds.{Operand, from_register, literal, short_literal, counted}
@@ -97,6 +97,12 @@ unfolding value_from pick
 form_value c Signed v w e = constant_low c Signed v w e
 form_value c Unsigned v w e = constant_low c Unsigned v w e
 form_value c Shifted v w e = constant_low c Shifted v w e
+
+pub immediate_value : (c : Config) (f : Form) (w : ℕ) → value_from c (form_source f) w ≡ constant c f w
+unfolding value_from pick
+immediate_value c Signed w = refl
+immediate_value c Unsigned w = refl
+immediate_value c Shifted w = refl
 
 module _ (c : Config) (i : Instruction) (a w : ℕ) (g : Agrees c.regsize a w i) where
   operand_value_lem : (b : Operand) → Holds (operand_reads b (action_at a).uses) → value_from c (operand_source b) w ≡ operand_value c b i.value
@@ -214,6 +220,17 @@ template_cost n = go (ltb n row_count) refl
   where
     go : (b : Bool) → ltb n row_count ≡ b → template_of n / 0x1000000 + template_of n / 0x200 % 2 ≤ 3
     go true e = (template_at n (ltb-true n row_count e)).0.1.0
+    go false e = let h = ltb-false n row_count e in rw (← template_past n h) (omega arith)
+
+sources_known : T (every row_count (λ n. leb (template_of n / 0x10000 % 16) 9))
+unfolding template_of entry_at entries action_at actions form_at condition_at facts_for marks_of taken_of condition_met value_source one pick
+sources_known = tt
+
+pub template_known : (n : ℕ) → template_of n / 0x10000 % 16 ≤ 9
+template_known n = go (ltb n row_count) refl
+  where
+    go : (b : Bool) → ltb n row_count ≡ b → template_of n / 0x10000 % 16 ≤ 9
+    go true e = leb→le _ _ (at_every row_count (λ m. leb (template_of m / 0x10000 % 16) 9) n sources_known (ltb-true n row_count e))
     go false e = let h = ltb-false n row_count e in rw (← template_past n h) (omega arith)
 
 -- The parts of a cell
@@ -340,7 +357,7 @@ pub answered : (c : Config) (w : ℕ) (r : Read) → Holds (lawful c) → r ≡ 
 answered c w r hc e = e ∙ sym (lawful_read c w (is_true (test (lawful c)) (tests (lawful c) hc)))
 
 -- one that is refused
-pub refused_cell : (c : Config) (w v r : ℕ) (x : Refusal) → reading_of (Refused x) ≡ read_lawful c w → v ≡ refusal_number x → r ≡ leaving v → r ≡ cell_of c w
+pub refused_cell : (c : Config) (w v r : ℕ) (x : Refusal) → reading_of (Err x) ≡ read_lawful c w → v ≡ refusal_number x → r ≡ leaving v → r ≡ cell_of c w
 unfolding cell_of reading_of refusal_number pick
 refused_cell c w v r x e p q = rw (sym e, q, p) (go x)
   where

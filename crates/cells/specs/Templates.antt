@@ -11,6 +11,8 @@ use Rattle.words.specs.Actions.{flag', destination', source'}
 use Rattle.words.specs.Lookup.{entry_at, entry_kind}
 use Rattle.arith.specs.Width.{one}
 use Rattle.state.specs.Operands.{constant}
+use Rattle.cells.specs.declared.decoding.ValueSource.{ValueSource}
+use Rattle.cells.specs.declared.decoding.ValueSource.TheVariants.{Nowhere, Immediate, Lower, Target, ByteNumber, UnitAndAddress, TurnsOn, TurnsOff}
 use Rattle.cells.specs.Cell.{turns_on, turns_off, first_apart, taken_of, used}
 
 -- Where the value of a cell comes from, by number: 0 nowhere, 1 to 3 an immediate by its form, 4 bits 15-0 as they stand, 5 bits 22-0, 6 the byte number,
@@ -57,6 +59,17 @@ value_source enter_bank = 7
 value_source leave_bank = 0
 value_source enter_special = 8
 value_source leave_special = 9
+
+-- the numbers of the sources
+abbrev pub source_number : ValueSource → ℕ
+source_number Nowhere = 0
+source_number (Immediate f) = form_source f
+source_number Lower = 4
+source_number Target = 5
+source_number ByteNumber = 6
+source_number UnitAndAddress = 7
+source_number TurnsOn = 8
+source_number TurnsOff = 9
 
 -- the value of source k in word w
 unfoldable pub value_from : Config → ℕ → ℕ → ℕ

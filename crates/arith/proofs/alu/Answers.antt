@@ -6,6 +6,6 @@ use Rattle.arith.proofs.alu.Goals as goal
 
 pub returns : goal.returns
 returns c = record {
-  answer = rw (c.alu_within.ensures (cut_within c.bits_of-w.ensures.0 _ _ _ c.truncate.ensures c.truncate-2.ensures), c.truncate-2.ensures, c.truncate.ensures, c.bits_of-w.ensures.0);
+  answer = rw (c.alu_within.ensures (cut_within c.of-w.ensures _ _ _ c.truncate.ensures c.truncate-2.ensures), c.truncate-2.ensures, c.truncate.ensures, c.of-w.ensures);
   double_sums = double_sums;
 }

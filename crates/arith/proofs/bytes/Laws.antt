@@ -1,28 +1,27 @@
 -- Bytes of a word.
 -- Assumes nothing.
-use Rattle.std.proofs.Common.{◌≡◌, ℕ, ◌+◌, ◌-◌, ◌*◌, ◌/◌, ◌%◌, ◌^◌, ◌<◌, ◌≤◌, sym, ap, ◌∙◌, le_trans, le_of_lt, mod-lt, mod-eq_of_lt, lt_of_not-le, sub-add_cancel, arith, pow_pos, pow_mono, pow-add, shl_exact, le-leb}
+use Rattle.std.proofs.Common.{◌≡◌, ℕ, ◌+◌, ◌-◌, ◌*◌, ◌/◌, ◌%◌, ◌^◌, ◌<◌, ◌≤◌, sym, ap, ◌∙◌, le_trans, le_of_lt, mod-lt, mod-eq_of_lt, lt_of_not-le, sub-add_cancel, arith, pow_pos, pow_mono, pow-add, shl_exact, shr_lt, one-mul, le-leb}
 use native.Mathlib.Nat.{div-eq_of_lt}
 use native.Mathlib.Decide.{dec_le}
 use borrow.Author.Tests.{lt-leb}
 use lib.Arith.{digits_div}
-use lib.Pow.{high_ones, shr_le}
-use lib.Bits.{bit_and, bit_or, bit_xor, and_mask, or_shifted}
+use lib.Pow.{high_ones}
+use lib.Bits.{bit_or, bit_xor, or_shifted}
 use Rattle.laws.specs.Choice.{pick}
-use Rattle.arith.specs.Width.{Width}
 use Rattle.arith.specs.Sums.{difference}
 use Rattle.arith.specs.Bytes.{extended, SignExtended}
 use Rattle.arith.proofs.width.Laws.{low_low, wrapped}
 use Rattle.arith.proofs.sums.Laws.{flip}
 
-pub byte_lt : (x : ℕ) → x % 256 < 2 ^ 8
-byte_lt x = omega arith
-
 -- the bytes above byte k with the new byte, and those below it
 pub bst_code : (k d b : ℕ) → k < 4 → d < 2 ^ 32 → b < 256
-    → bit_or ((d / 2 ^ (8 * k) / 256 * 256 + b) * 2 ^ (8 * k) % 2 ^ 64) (bit_and d (2 ^ (8 * k) - 1))
+    → bit_or ((d / 2 ^ (8 * k) / 256 * 256 + b) * 2 ^ (8 * k) % 2 ^ 32) (d % (1 * 2 ^ (8 * k) % 2 ^ 32))
     ≡ (d / 2 ^ (8 * k) / 256 * 256 + b) * 2 ^ (8 * k) + d % 2 ^ (8 * k)
 bst_code k d b h l hb =
-    rw (and_mask d (8 * k), shl_exact {a = d / 2 ^ (8 * k) / 256 * 256 + b} 33 (8 * k) 64 (omega (arith, shr_le d (8 * k))) (omega arith))
+    let room : 2 ^ (32 - 8 * k) ≡ 2 ^ (24 - 8 * k) * 256 = ap (λ (x : ℕ). 2 ^ x) (omega arith) ∙ pow-add 2 (24 - 8 * k) 8 in
+    let high : d / 2 ^ (8 * k) < 2 ^ (32 - 8 * k) = shr_lt (32 - 8 * k) (8 * k) (le_trans l (pow_mono {i = 32} {j = 32 - 8 * k + 8 * k} (omega arith))) in
+    let one : 1 * 2 ^ (8 * k) % 2 ^ 32 ≡ 2 ^ (8 * k) = shl_exact {a = 1} 1 (8 * k) 32 (omega arith) (omega arith) ∙ one-mul (2 ^ (8 * k)) in
+    rw (one, shl_exact {a = d / 2 ^ (8 * k) / 256 * 256 + b} (32 - 8 * k) (8 * k) 32 (omega (arith, room, high)) (omega arith))
     (or_shifted (d / 2 ^ (8 * k) / 256 * 256 + b) (8 * k) (d % 2 ^ (8 * k)) (mod-lt d (pow_pos (8 * k))))
 
 -- a byte is a word
@@ -30,9 +29,9 @@ pub byte_room : (w : ℕ) → 8 ≤ w → 256 ≤ 2 ^ w
 byte_room w h = pow_mono {i = 8} h
 
 -- 2 ^ w - 128 more at 32 bits, cut to w, is 128 less at w
-pub less_code : (w x : ℕ) → Width w → (x + (2 ^ w - 128)) % 2 ^ 32 % 2 ^ w ≡ difference w x 128 0
+pub less_code : (w x : ℕ) → 8 ≤ w → w ≤ 32 → (x + (2 ^ w - 128)) % 2 ^ 32 % 2 ^ w ≡ difference w x 128 0
 unfolding difference
-less_code w x h = low_low (x + (2 ^ w - 128)) w h.most ∙ ap (λ (k : ℕ). k % 2 ^ w) (omega (arith, byte_room w h.least))
+less_code w x h k = low_low (x + (2 ^ w - 128)) w k ∙ ap (λ (n : ℕ). n % 2 ^ w) (omega (arith, byte_room w h))
 
 -- BLDS is the byte sign extended, whatever the width: by its top bit, the difference is the byte, or the byte and 256 less than 2 ^ w
 pub sign_extended : (w b : ℕ) → 8 ≤ w → b < 256 → SignExtended w b (extended w b)
@@ -70,3 +69,5 @@ sign_extended w b h l = go (dec_le 128 b)
           sum = rw (v, t) (omega arith);
           copies = λ i f g. rw (v, t) (ap (λ (k : ℕ). k % 2) (div-eq_of_lt (le_trans l (byte_room i f))));
         }
+
+pub ruleset blds_laws = (byte_room, less_code, sign_extended)

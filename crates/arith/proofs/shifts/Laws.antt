@@ -5,24 +5,21 @@ use native.Mathlib.Nat.{div-eq_of_lt}
 use native.Mathlib.Decide.{dec_le}
 use lib.Pow.{high, shr_le, shr_mono, ones_split, ones_lt}
 use lib.Bits.{bit_or, or_shifted}
-use Rattle.arith.specs.Width.{Words, half}
-use Rattle.arith.proofs.width.Laws.{low_low}
-
-pub shl_code : (w a k : ℕ) → w ≤ 32 → a * 2 ^ k % 2 ^ 32 % 2 ^ w ≡ a * 2 ^ k % 2 ^ w
-shl_code w a k h = low_low (a * 2 ^ k) w h
+use Rattle.arith.specs.Width.{half}
+use Rattle.arith.proofs.width.Laws.{power_most}
 
 pred_suc : (w : ℕ) → 8 ≤ w → w - 1 + 1 ≡ w
 pred_suc w h = omega arith
 
-pub rotl_code : (w a : ℕ) → Words w a a → bit_or (a % half w * 2 ^ 1 % 2 ^ 32) (a / half w) ≡ a % half w * 2 + a / half w
-rotl_code w a h =
-    ap (λ (x : ℕ). bit_or x (a / half w)) (shl_exact (w - 1) 1 32 (mod-lt a (pow_pos (w - 1))) (omega (arith, h.width.least, h.width.most)))
-    ∙ or_shifted (a % half w) 1 (a / half w) (shr_lt 1 (w - 1) (rw (add_comm 1 (w - 1), pred_suc w h.width.least) h.left))
+pub rotl_code : (w a : ℕ) → 8 ≤ w → w ≤ 32 → a < 2 ^ w → bit_or (a % half w * 2 ^ 1 % 2 ^ 32) (a / half w) ≡ a % half w * 2 + a / half w
+rotl_code w a p q h =
+    ap (λ (x : ℕ). bit_or x (a / half w)) (shl_exact (w - 1) 1 32 (mod-lt a (pow_pos (w - 1))) (omega arith))
+    ∙ or_shifted (a % half w) 1 (a / half w) (shr_lt 1 (w - 1) (rw (add_comm 1 (w - 1), pred_suc w p) h))
 
-pub rotr_code : (w a : ℕ) → Words w a a → bit_or (a % 2 * half w % 2 ^ 32) (a / 2) ≡ a % 2 * half w + a / 2
-rotr_code w a h =
-    ap (λ (x : ℕ). bit_or x (a / 2)) (shl_exact 1 (w - 1) 32 (omega arith) (omega (arith, h.width.least, h.width.most)))
-    ∙ or_shifted (a % 2) (w - 1) (a / 2) (shr_lt (w - 1) 1 (rw (pred_suc w h.width.least) h.left))
+pub rotr_code : (w a : ℕ) → 8 ≤ w → w ≤ 32 → a < 2 ^ w → bit_or (a % 2 * half w % 2 ^ 32) (a / 2) ≡ a % 2 * half w + a / 2
+rotr_code w a p q h =
+    ap (λ (x : ℕ). bit_or x (a / 2)) (shl_exact 1 (w - 1) 32 (omega arith) (omega arith))
+    ∙ or_shifted (a % 2) (w - 1) (a / 2) (shr_lt (w - 1) 1 (rw (pred_suc w p) h))
 
 -- all ones, shifted right by k: w - k ones are left
 ones_shr : (w k : ℕ) → (2 ^ w - 1) / 2 ^ k ≡ 2 ^ (w - k) - 1
@@ -45,3 +42,5 @@ pub shra_fits : (p a k : ℕ) → a < p → p - 1 - (p - 1) / 2 ^ k + a / 2 ^ k 
 shra_fits p a k h =
     let l : a ≤ p - 1 = omega arith in
     omega (arith, shr_mono k l, shr_le (p - 1) k)
+
+pub ruleset shra_laws = (power_most, shra_code, shra_fits)

@@ -1,7 +1,7 @@
 -- Sums and differences: what the code computes at 32 bits and cuts to w is the definition at w.
 -- Assumes nothing.
-use Rattle.std.proofs.Common.{◌≡◌, ℕ, zero, suc, ◌+◌, ◌-◌, ◌*◌, ◌%◌, ◌^◌, ◌<◌, ◌≤◌, Bool, true, false, cond, ltb, leb, pos, negsuc, ◌-ℤ◌, sym, refl, ap, ◌∙◌, zero-le, le_trans, add-zero, mod-eq_of_lt, one-mul, pow-suc, lt_of_not-le, sub-add_cancel, add-one, arith, lit≤, pow_pos, le-ltb, lt-ltb, le-leb}
-use native.Mathlib.Nat.{mod-add-mod}
+use Rattle.std.proofs.Common.{◌≡◌, ℕ, zero, suc, ◌+◌, ◌-◌, ◌*◌, ◌%◌, ◌^◌, ◌<◌, ◌≤◌, Bool, true, false, cond, ltb, leb, leb-true, leb-false, pos, negsuc, ◌-ℤ◌, sym, refl, ap, ◌∙◌, zero-le, le_trans, add-zero, one-mul, pow-add, pow-suc, lt_of_not-le, sub-add_cancel, add-one, arith, lit≤, pow_pos, le-ltb, lt-ltb, le-leb}
+use native.Mathlib.Nat.{mod-add-mod, mul-add-mod_self_right}
 use native.Mathlib.Decide.{dec_le}
 use borrow.Author.Tests.{lt-leb}
 use lib.IntN.{sub_ℕ}
@@ -10,7 +10,7 @@ use lib.Bits.{bit_xor, xor_block, xor_zero_r}
 use Rattle.laws.specs.Choice.{pick}
 use Rattle.arith.specs.Width.{Words, half, top}
 use Rattle.arith.specs.Sums.{difference, signed, negative}
-use Rattle.arith.proofs.width.Laws.{twice, low_low, power_most, wrapped}
+use Rattle.arith.proofs.width.Laws.{flag_is, twice, low_low, power_most}
 
 pub sum_code : (w a b c : ℕ) → w ≤ 32 → ((a + b) % 2 ^ 32 + c) % 2 ^ 32 % 2 ^ w ≡ (a + b + c) % 2 ^ w
 sum_code w a b c h = ap (λ (k : ℕ). k % 2 ^ w) (mod-add-mod (a + b) (2 ^ 32) c) ∙ low_low (a + b + c) w h
@@ -19,24 +19,15 @@ sum_code w a b c h = ap (λ (k : ℕ). k % 2 ^ w) (mod-add-mod (a + b) (2 ^ 32) 
 span : (w : ℕ) → w ≤ 32 → 2 ^ 32 - 2 ^ w ≡ (2 ^ (32 - w) - 1) * 2 ^ w
 span w h = ap (λ (k : ℕ). 2 ^ k - 2 ^ w) (sym (sub-add_cancel h)) ∙ high_ones (32 - w) w
 
--- the difference at 32 bits, cut to w, is the difference at w: r and v are what the two wrapping subtractions give
-module _ (w a b c r v : ℕ) (h : Words w a b) (hc : c ≤ 1) (hv : v < 2 ^ 32) (e : (r + b) % 2 ^ 32 ≡ a) (hr : r < 2 ^ 32) (f : (v + c) % 2 ^ 32 ≡ r) where
-  pub subtract_code : v % 2 ^ w ≡ difference w a b c
-  unfolding difference
-  subtract_code = go (dec_le (b + c) a)
-    where
-      m : 2 ^ w ≤ 2 ^ 32
-      m = power_most w h.width.most
-
-      go : Dec (b + c ≤ a) → v % 2 ^ w ≡ (2 ^ w + a - (b + c)) % 2 ^ w
-      go (yes p) =
-          let s : v ≡ a - (b + c) = omega (arith, m) in
-          let t : v < 2 ^ w = omega (arith, h.left) in
-          mod-eq_of_lt t ∙ sym (wrapped 1 (omega (arith, h.left)) t)
-      go (no q) =
-          let p : a < b + c = lt_of_not-le q in
-          let t : 2 ^ w + a - (b + c) < 2 ^ w = omega (arith, h.right) in
-          wrapped (2 ^ (32 - w) - 1) (omega (arith, m, span w h.width.most, h.right)) t ∙ sym (mod-eq_of_lt t)
+-- the difference at 32 bits, cut to w, is the difference at w: each subtraction adds 2 ^ 32, a multiple of 2 ^ w
+pub subtract_code : (w a b c : ℕ) → w ≤ 32 → b < 2 ^ w → c ≤ 1 → ((a + (2 ^ 32 - b)) % 2 ^ 32 + (2 ^ 32 - c)) % 2 ^ 32 % 2 ^ w ≡ difference w a b c
+unfolding difference
+subtract_code w a b c h l k =
+    let all : 2 ^ 32 ≡ 2 ^ (32 - w) * 2 ^ w = ap (λ (n : ℕ). 2 ^ n) (sym (sub-add_cancel h)) ∙ pow-add 2 (32 - w) w in
+    sum_code w a (2 ^ 32 - b) (2 ^ 32 - c) h
+    ∙ ap (λ (n : ℕ). n % 2 ^ w) (omega (arith, power_most w h, span w h, all, l))
+    ∙ mul-add-mod_self_right (2 ^ (32 - w) - 1) (2 ^ w) (2 ^ (32 - w) * 2 ^ w + (2 ^ w + a - (b + c)))
+    ∙ mul-add-mod_self_right (2 ^ (32 - w)) (2 ^ w) (2 ^ w + a - (b + c))
 
 -- flipping the top bit of k + 1 bits
 pub flip : (k a : ℕ) → a < 2 ^ suc k → bit_xor a (2 ^ k) ≡ pick (leb (2 ^ k) a) (a - 2 ^ k) (a + 2 ^ k)
@@ -70,21 +61,13 @@ unfolding raised
 raise_code w a h l = flip (w - 1) a (rw (← add-one (w - 1), sub-add_cancel {n = w} {m = 1} (le_trans (lit≤ tt) h)) l)
 
 -- a half word with its top bit flipped, less 2 ^ 15, is the word sign extended
-pub signed_code : (v r : ℕ) → v < 65536 → r < 2 ^ 32 → (r + 32768) % 2 ^ 32 ≡ bit_xor v 32768 → r ≡ pick (leb 32768 v) (v + 0xffff0000) v
+pub signed_code : (v : ℕ) → v < 65536 → (bit_xor v 32768 + (2 ^ 32 - 32768)) % 2 ^ 32 ≡ pick (leb 32768 v) (v + 0xffff0000) v
 unfolding raised pick
-signed_code v r h l q = go (dec_le 32768 v)
+signed_code v h = rw (raise_code 16 v (omega arith) h) (go (leb 32768 v) refl)
   where
-    code : (r + 32768) % 2 ^ 32 ≡ raised 16 v
-    code = q ∙ raise_code 16 v (omega arith) h
-
-    go : Dec (32768 ≤ v) → r ≡ pick (leb 32768 v) (v + 0xffff0000) v
-    go (yes p) =
-        let e : (r + 32768) % 2 ^ 32 ≡ v - 32768 = rw (le-leb 32768 v p) at code in
-        rw (le-leb 32768 v p) (omega arith)
-    go (no n) =
-        let p : v < 32768 = lt_of_not-le n in
-        let e : (r + 32768) % 2 ^ 32 ≡ v + 32768 = rw (lt-leb 32768 v p) at code in
-        rw (lt-leb 32768 v p) (omega arith)
+    go : (t : Bool) → leb 32768 v ≡ t → (pick t (v - 32768) (v + 32768) + (2 ^ 32 - 32768)) % 2 ^ 32 ≡ pick t (v + 0xffff0000) v
+    go true q = omega (arith, leb-true 32768 v q)
+    go false q = omega (arith, leb-false 32768 v q)
 
 -- two tests that say the same
 same_test : (a b c d : ℕ) → (a < b → c < d) → (c < d → a < b) → ltb a b ≡ ltb c d
@@ -138,3 +121,5 @@ sign_code w a b h = go (dec_le (half w) a) (dec_le (half w) b)
         let p' : a < half w = lt_of_not-le p in
         let q' : b < half w = lt_of_not-le q in
         simp (lt-leb _ _ p', lt-leb _ _ q') (same_test (a + half w) (b + half w) a b (omega arith) (omega arith) ∙ sym (pos_pos a b))
+
+pub ruleset subs_laws = (flag_is, raise_code, sign_code)
