@@ -1,29 +1,17 @@
--- The joined bits of cells: how a loop comes to them, and what they tell of the cells. Assumes nothing.
-use Prim.Native.Nat.{ℕ, ◌+◌, ◌^◌, ◌≤◌, ◌<◌}
+-- What the joined bits of cells tell of the cells. Assumes nothing.
+use Prim.Native.Nat.{ℕ, ◌^◌, ◌≤◌}
 use mathlib.Core.Path.{◌≡◌, refl, sym, ◌∙◌}
 use mathlib.Core.Bool.{Bool, true, false, ◌&&◌, and_assoc, and-true}
 use mathlib.Core.List.{List, [], ◌∷◌}
 use native.Mathlib.Nat.{le_trans}
-use native.Mathlib.Numerals.{add-one}
 use native.Mathlib.Omega.{arith}
 use borrow.Author.Tests.{lt-ltb, le-ltb, ltb-true, ltb-false, eq-eqb, ne_eqb}
 use lib.Bits.{bit_or, or_lt, or_add_and, and_le_l, and_le_r}
 use lib.Dec.{ltb, eqb}
 use lib.Pow.{pow_pos}
-use lib.ListN.{length, get_or, drop, drop_of_length-le}
-use lib.Seq.{drop-cons}
 use Rattle.laws.specs.Test.{below}
-use Rattle.guards.specs.Joins.{join_from, join_of}
-
--- the loop that joins
-module _ (xs : List ℕ) (i a : ℕ) where
-  pub join_further : i < length xs → join_from (bit_or a (get_or xs i 0)) (drop (i + 1) xs) ≡ join_from a (drop i xs)
-  unfolding join_from
-  join_further h = rw (add-one, drop-cons xs i 0 h)
-
-  pub join_done : length xs ≤ i → a ≡ join_from a (drop i xs)
-  unfolding join_from
-  join_done h = rw (drop_of_length-le xs h)
+use Rattle.std.specs.List.{fold}
+use Rattle.guards.specs.Joins.{join_of}
 
 or_most_l : (a b : ℕ) → a ≤ bit_or a b
 or_most_l a b = omega (arith, or_add_and a b, and_le_r a b)
@@ -40,8 +28,7 @@ or_below k a b = go (ltb a (2 ^ k)) (ltb b (2 ^ k)) refl refl
     go true false h l = le-ltb (bit_or a b) (2 ^ k) (le_trans (ltb-false b (2 ^ k) l) (or_most_r a b))
     go false q h l = le-ltb (bit_or a b) (2 ^ k) (le_trans (ltb-false a (2 ^ k) h) (or_most_l a b))
 
-from_below : (k a : ℕ) (xs : List ℕ) → ltb (join_from a xs) (2 ^ k) ≡ (ltb a (2 ^ k) && below (2 ^ k) xs)
-unfolding join_from
+from_below : (k a : ℕ) (xs : List ℕ) → ltb (fold bit_or a xs) (2 ^ k) ≡ (ltb a (2 ^ k) && below (2 ^ k) xs)
 from_below k a [] = sym (and-true (ltb a (2 ^ k)))
 from_below k a (x ∷ xs) = from_below k (bit_or a x) xs ∙ rw (or_below k a x) (and_assoc (ltb a (2 ^ k)) (ltb x (2 ^ k)) (below (2 ^ k) xs))
 

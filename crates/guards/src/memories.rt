@@ -7,25 +7,16 @@ ghost use Rattle.guards.specs.Joins.{join_of};
 pub fn within(xs: &[u32], most: u32) -> bool
     ensures { result ≡ below (most + 1) xs.now }
 {
-    let mut i: usize = 0;
-    while i < xs.len() {
-        if most < xs[i] {
-            return false;
-        }
-        i += 1;
-    }
-    true
+    xs.iter().all(|x| *x <= most)
 }
 
 // The bits that are set in any cell: one pass without an early end, which is compiled to vector instructions.
 pub fn joined(xs: &[u32]) -> u32
     ensures { result ≡ join_of xs.now }
 {
-    let mut all: u32 = 0;
-    let mut i: usize = 0;
-    while i < xs.len() {
-        all = all | xs[i];
-        i += 1;
+    let mut all = 0;
+    for x in xs {
+        all |= *x;
     }
     all
 }

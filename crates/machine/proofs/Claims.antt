@@ -1,8 +1,9 @@
 -- The promises of step and run, from their equations and the theorems of state. Assumes nothing.
 use Prim.Native.Nat.{ℕ}
-use mathlib.Core.Path.{◌≡◌, refl}
+use mathlib.Core.Path.{◌≡◌, refl, sym, ap, ◌∙◌}
+use mathlib.Core.List.{List}
 use lib.ListN.{length}
-use Rattle.state.specs.State.{Env, State}
+use Rattle.state.specs.State.{Env, State, state}
 use Rattle.state.specs.Step.{Outcome, refused, step_of}
 use Rattle.state.specs.Run.{ended, run_call}
 use Rattle.state.proofs.Unchanged as unchanged
@@ -55,3 +56,11 @@ runs_fit budget e s x l q = record { fits = λ _. runs budget e s x q; misfit = 
 
 pub runs_misfit : (budget : ℕ) (e : Env) (s : State) → (length s.stack ≡ 63 → ⊥) → RunsLent budget e s (end_of (ended 2 s))
 runs_misfit budget e s n = record { fits = λ l. absurd (n l); misfit = λ _. refl }
+
+-- a step that is refused on a copy of the return stack leaves the copy as it was
+pub refused_on_copy : (e : Env) (s : State) (n : ℕ) (t : State) → (n ≡ 0 → ⊥) → Steps e s (refused n t) →
+    Steps e s (refused n (state t.core s.stack t.registers t.memory t.addresses t.values))
+refused_on_copy e s n t f h =
+    let still : t ≡ s = ap (λ (o : Outcome). o.state) h.answer ∙ h.refused_stays e s (λ z. f (ap (λ (o : Outcome). o.number) h.answer ∙ z)) in
+    steps e s _
+    (ap (λ (k : List ℕ). refused n (state t.core k t.registers t.memory t.addresses t.values)) (sym (ap (λ (u : State). u.stack) still)) ∙ h.answer)

@@ -1,3 +1,4 @@
+pub mod Numbers
 pub mod Lookup
 pub mod Cached
 pub mod Claims

@@ -1,3 +1,4 @@
+pub mod Numbers
 pub mod Exec
 pub mod Cached
 pub mod Single

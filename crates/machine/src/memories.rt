@@ -14,14 +14,13 @@ pub fn cell(xs: &[u32], i: usize) -> u32
     xs[i]
 }
 
-// A write, if it is on.
-fn put(xs: &mut [u32], w: Write)
+// A write, if there is one.
+fn put(xs: &mut [u32], w: Option<Write>)
     requires { Inside (length xs.old) w }
     ensures { xs.new ≡ put_of w xs.old }
 {
-    if w.on {
-        let at = w.at;
-        xs[at] = w.value;
+    if let Some(Write { at, value }) = w {
+        xs[at] = value;
     }
 }
 

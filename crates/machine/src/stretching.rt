@@ -30,9 +30,8 @@ pub fn stretch(
     ensures { Came (cell_at mask cells.now) budget (env c image.now inputs.now) (state first stack.old registers.old memory.old addresses.old values.old) (state result.core stack.new registers.new memory.new addresses.new values.new) result }
 {
     let mut core = first;
-    let mut done: u64 = 0;
     let mut cycles: u64 = 0;
-    while done < budget {
+    for done in 0..budget {
         let t = advance(
             c, limit, core, mask, cells, image, inputs, stack, registers, memory, addresses, values,
         );
@@ -46,12 +45,11 @@ pub fn stretch(
                 core,
             };
         }
-        cycles = cycles + t.cycles;
-        done = done + 1;
+        cycles += t.cycles;
     }
     Turns {
         stop: 0,
-        steps: done,
+        steps: budget,
         cycles,
         core,
     }

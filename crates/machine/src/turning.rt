@@ -25,18 +25,12 @@ const FEW: u64 = 16;
 
 const SMALL: u64 = 128;
 
-// The numbers of few, small and large cells, two a pair of an address and its cell, and the mask of the places of their pairs.
+// How many numbers few, small and large cells are, two a pair of an address and its cell; powers of two, since the low bits of an address are its place.
 const FEW_NUMBERS: usize = 32;
-
-const FEW_MASK: usize = 15;
 
 const SMALL_NUMBERS: usize = 256;
 
-const SMALL_MASK: usize = 127;
-
 const LARGE_NUMBERS: usize = 4096;
-
-const LARGE_MASK: usize = 2047;
 
 // One step.
 pub fn once(
@@ -79,9 +73,7 @@ fn fill(c: Config, image: &[u32], mask: usize, pc: usize, cells: &mut [u64], mos
     requires { Cached c image.now mask cells.old × Holds (lawful c) × (length image.now ≡ c.imsize) × (pc ≤ 8388608) × (most ≤ 7) }
     ensures { Cached c image.now mask cells.new }
 {
-    let mut at = pc;
-    let mut left: u64 = most;
-    while 0 < left {
+    for at in pc..pc + most as usize {
         if image.len() <= at {
             return;
         }
@@ -93,8 +85,6 @@ fn fill(c: Config, image: &[u32], mask: usize, pc: usize, cells: &mut [u64], mos
         }
         let x = cells::decode(c, cell(image, at));
         keep(c, image, mask, at, x, cells);
-        at += 1;
-        left -= 1;
     }
 }
 
@@ -136,6 +126,7 @@ fn turning(
     let mut core = first;
     let mut done: u64 = 0;
     let mut cycles: u64 = 0;
+    // No `for`: a turn does as many steps as it comes to.
     while done < budget {
         let pc = core.pc;
         if c.imsize as usize <= pc {
@@ -185,8 +176,8 @@ fn turning(
     }
 }
 
-// With 16 cells.
-fn few(
+// Over N numbers; at most 32 KB, which is what a call lays on the stack.
+fn with_cells<const N: usize>(
     c: Config,
     m: Core,
     image: &[u32],
@@ -198,58 +189,22 @@ fn few(
     values: &mut [u32],
     budget: u64,
 ) -> Turns
-    requires { (length stack.old ≡ 63) × Good (env c image.now inputs.now) (state m stack.old registers.old memory.old addresses.old values.old) × (budget ≤ 1000000) }
+    requires { (length stack.old ≡ 63) × Good (env c image.now inputs.now) (state m stack.old registers.old memory.old addresses.old values.old) × (budget ≤ 1000000) × (2 ≤ N) × (N ≤ 4096) }
     ensures { turns_end result stack.new registers.new memory.new addresses.new values.new ≡ end_of (run_of budget (env c image.now inputs.now) (state m stack.old registers.old memory.old addresses.old values.old)) }
 {
-    let mut cells: [u64; FEW_NUMBERS] = [0; FEW_NUMBERS];
+    let mut cells = [0u64; N];
     turning(
-        c, m, FEW_MASK, &mut cells, image, inputs, stack, registers, memory, addresses, values,
-        budget,
-    )
-}
-
-// With 128 cells.
-fn small(
-    c: Config,
-    m: Core,
-    image: &[u32],
-    inputs: &[u32],
-    stack: &mut [u32],
-    registers: &mut [u32],
-    memory: &mut [u32],
-    addresses: &mut [u32],
-    values: &mut [u32],
-    budget: u64,
-) -> Turns
-    requires { (length stack.old ≡ 63) × Good (env c image.now inputs.now) (state m stack.old registers.old memory.old addresses.old values.old) × (budget ≤ 1000000) }
-    ensures { turns_end result stack.new registers.new memory.new addresses.new values.new ≡ end_of (run_of budget (env c image.now inputs.now) (state m stack.old registers.old memory.old addresses.old values.old)) }
-{
-    let mut cells: [u64; SMALL_NUMBERS] = [0; SMALL_NUMBERS];
-    turning(
-        c, m, SMALL_MASK, &mut cells, image, inputs, stack, registers, memory, addresses, values,
-        budget,
-    )
-}
-
-// With 2,048 cells: 32 KB, the most that a call lays on the stack.
-fn large(
-    c: Config,
-    m: Core,
-    image: &[u32],
-    inputs: &[u32],
-    stack: &mut [u32],
-    registers: &mut [u32],
-    memory: &mut [u32],
-    addresses: &mut [u32],
-    values: &mut [u32],
-    budget: u64,
-) -> Turns
-    requires { (length stack.old ≡ 63) × Good (env c image.now inputs.now) (state m stack.old registers.old memory.old addresses.old values.old) × (budget ≤ 1000000) }
-    ensures { turns_end result stack.new registers.new memory.new addresses.new values.new ≡ end_of (run_of budget (env c image.now inputs.now) (state m stack.old registers.old memory.old addresses.old values.old)) }
-{
-    let mut cells: [u64; LARGE_NUMBERS] = [0; LARGE_NUMBERS];
-    turning(
-        c, m, LARGE_MASK, &mut cells, image, inputs, stack, registers, memory, addresses, values,
+        c,
+        m,
+        N / 2 - 1,
+        &mut cells,
+        image,
+        inputs,
+        stack,
+        registers,
+        memory,
+        addresses,
+        values,
         budget,
     )
 }
@@ -271,16 +226,16 @@ pub fn turns(
     ensures { turns_end result stack.new registers.new memory.new addresses.new values.new ≡ end_of (run_of budget (env c image.now inputs.now) (state m stack.old registers.old memory.old addresses.old values.old)) }
 {
     if budget < FEW {
-        return few(
+        return with_cells::<FEW_NUMBERS>(
             c, m, image, inputs, stack, registers, memory, addresses, values, budget,
         );
     }
     if (budget <= SMALL) | (c.imsize as u64 <= SMALL) {
-        return small(
+        return with_cells::<SMALL_NUMBERS>(
             c, m, image, inputs, stack, registers, memory, addresses, values, budget,
         );
     }
-    large(
+    with_cells::<LARGE_NUMBERS>(
         c, m, image, inputs, stack, registers, memory, addresses, values, budget,
     )
 }

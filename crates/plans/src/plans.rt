@@ -27,7 +27,7 @@ const STACK_WORDS: usize = 0x100000000;
 fn next(m: Core) -> Core
     ensures { result ≡ onward m }
 {
-    m.go(std::num::wrapping_add_usize(m.pc, 1))
+    m.go(m.pc.wrapping_add(1))
 }
 
 // An instruction of a kind that no word has.
@@ -74,7 +74,7 @@ pub fn load_index(m: Core, bit26: u32, x: u32, y: u32) -> Change
 fn index_core(c: Config, m: Core, bit26: u32) -> Core
     ensures { result ≡ flagged (further c (onward m)) bit26 (flag (m.rx == m.ry)) 0 }
 {
-    let x = std::num::wrapping_add_usize(m.rx, 1);
+    let x = m.rx.wrapping_add(1);
     let equal = one(m.rx == m.ry);
     if x == c.regsize as usize {
         return next(m).indexed(m.loaded, 0, m.ry).flagged(bit26, equal, 0);
@@ -185,13 +185,12 @@ pub fn port_modify(c: Config, m: Core, i: usize, a: u32, inputs: &[u32], room: u
     }
     let x = cut(c.regwidth, wide(inputs[t]));
     let y = with_top_bit(c, x);
-    let off = Write::off();
     next(m).positioned(t + 1, l + 1).posting(a as u64).change(
-        Write::to(i, x),
-        off,
-        off,
-        Write::to(l, a),
-        Write::to(l, y),
+        Some(Write { at: i, value: x }),
+        None,
+        None,
+        Some(Write { at: l, value: a }),
+        Some(Write { at: l, value: y }),
     )
 }
 
@@ -233,7 +232,7 @@ pub fn call(limit: usize, m: Core, p: usize) -> Change
 {
     let d = m.depth;
     if d < limit {
-        let back = std::num::wrapping_add_usize(m.pc, 1) % STACK_WORDS;
+        let back = m.pc.wrapping_add(1) % STACK_WORDS;
         return m.go(p).deep(d + 1).to_stack(d, back as u32);
     }
     m.stopped(10)
@@ -266,8 +265,16 @@ pub fn ret_constant(m: Core, i: usize, x: u32, stack: &[u32]) -> Change
     if d == 0 {
         return m.stopped(11);
     }
-    let off = Write::off();
-    returned(m, d - 1, stack).change(Write::to(i, x), off, Write::to(d - 1, 0), off, off)
+    returned(m, d - 1, stack).change(
+        Some(Write { at: i, value: x }),
+        None,
+        Some(Write {
+            at: d - 1,
+            value: 0,
+        }),
+        None,
+        None,
+    )
 }
 
 // JSRWP: 12 where the new bank does not fit; x is the context that it stores.

@@ -10,6 +10,7 @@ use native.Mathlib.Decide.{dec_lt}
 use lib.Dec.{T, T_not}
 use lib.ListN.{length, get_or, set, length-set}
 use lib.Seq.{get_or-set_same, get_or-set_other}
+use Rattle.std.specs.Prelude.{Option}
 use Rattle.laws.specs.Choice.{pick}
 use Rattle.laws.specs.Test.{Holds, member, eq→eqb, and_left, or_cases, or_left, or_right}
 use Rattle.words.specs.declared.Config.{Config}
@@ -88,7 +89,7 @@ module _ (c : Config) (image certificate : List ℕ) (i : Instruction) (f : Fact
       let n : j ≡ m.depth - 1 → ⊥ = omega arith in
       rw (get_or-set_other stack (m.depth - 1) j 0 0 n) (v.saved j (omega arith))
 
-  pub moved_control : {pc depth : ℕ} {w : Write} {mode posted : ℕ} →
+  pub moved_control : {pc depth : ℕ} {w : Option Write} {mode posted : ℕ} →
       Moves f i.value m stack pc depth w mode posted →
       Control c image certificate pc depth (put_of w stack) mode posted
   unfolding put_of pick

@@ -8,6 +8,7 @@ use mathlib.Core.List.{List, [], ◌∷◌}
 use native.Mathlib.Omega.{arith}
 use lib.Dec.{T, not_T}
 use lib.ListN.{get_or}
+use Rattle.std.specs.Prelude.{Option}
 use Rattle.laws.specs.Choice.{pick, either, decided_yes}
 use Rattle.laws.specs.Test.{Test, yes?, if?, ◌and◌, ◌or◌, test, Holds, holds}
 use Rattle.laws.specs.Table.{every, at_every}
@@ -32,7 +33,7 @@ use Rattle.rules.proofs.Successors.{◌∈◌, first, second}
 -- From core m and stack, by an instruction of facts f and target t: the PC, the depth, what is
 -- written to the stack, the mode and the posted mark. Only a word that goes on to the next address
 -- posts. Calls and returns are none of what special-register mode allows.
-pub data Moves (f : Facts) (t : ℕ) (m : Core) (stack : List ℕ) : ℕ → ℕ → Write → ℕ → ℕ → Type 0 where
+pub data Moves (f : Facts) (t : ℕ) (m : Core) (stack : List ℕ) : ℕ → ℕ → Option Write → ℕ → ℕ → Type 0 where
   to_successor : {a posted : ℕ} →
       successor a false ∈ successors f m.pc t →
       (posted ≡ 1 → T f.output × (a ≡ m.pc + 1)) →
@@ -45,7 +46,7 @@ pub data Moves (f : Facts) (t : ℕ) (m : Core) (stack : List ℕ) : ℕ → ℕ
   to_saved : T f.returns →
       T (not (f.leaves || f.reveals)) →
       Moves f t m stack (get_or stack (m.depth - 1) 0) (m.depth - 1) (write (m.depth - 1) 0) m.mode 0
-  to_barred : {pc depth : ℕ} {w : Write} {mode posted : ℕ} → T f.barred → Moves f t m stack pc depth w mode posted
+  to_barred : {pc depth : ℕ} {w : Option Write} {mode posted : ℕ} → T f.barred → Moves f t m stack pc depth w mode posted
 
 abbrev pub MovesBy : Facts → ℕ → Core → List ℕ → Change → Type 0
 MovesBy f t m stack x = Moves f t m stack x.core.pc x.core.depth x.stack x.core.mode x.core.posted

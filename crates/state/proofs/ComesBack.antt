@@ -42,7 +42,7 @@ enters e s h =
     let g = step_accepted e s h.done in
     let p = plan_enter e s h.kind in
     let w = 16 * (parts_at e s).destination in
-    let l : w < e.config.rmsize = (rw p at (lands e s g d.passed).reg.cell) tt in
+    let l : w < e.config.rmsize = rw p at (lands e s g d.passed).reg in
     rw (d.made, p) (record { wp = refl; zero = get_or-set_same s.registers w (context_of s.core) 0 (rw g.registers l) })
 
 -- what a RETWP takes from register zero

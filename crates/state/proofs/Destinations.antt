@@ -1,8 +1,8 @@
 -- A plan writes where its kind's destination says, and nowhere else.
 -- Assumes nothing.
 use Prim.Native.Nat.{ℕ}
-use mathlib.Core.Path.{◌≡◌, refl, sym}
-use mathlib.Core.Bool.{true, true≢false}
+use mathlib.Core.Path.{◌≡◌, refl}
+use Rattle.std.specs.Prelude.{Option, Some, None}
 use Rattle.words.specs.declared.Instruction.{Instruction}
 use Rattle.words.specs.Kinds.{Kind, unsupported, compute, compare, multiply, bytewise, load_index, index_store, index_load, move, load_constant, load_register, load_direct, store_register, store_direct, port_read, port_modify, port_write, jump, branch, jump_register, branch_register, call, call_register, ret, ret_constant, enter_bank, leave_bank, enter_special, leave_special}
 use Rattle.state.specs.declared.Core.{Core}
@@ -13,20 +13,25 @@ use Rattle.state.specs.Operands.{View}
 use Rattle.state.specs.Destinations.{Destination, register_cell, data-cell, nowhere, destination_of}
 use Rattle.state.specs.Plans.{plan_of, compare_plan, compute_plan, multiply_plan, load_index_plan, index_store_plan, index_load_plan, move_plan, load_constant_plan, load_register_plan, load_direct_plan, store_register_plan, store_direct_plan, port_read_plan, port_write_plan, port_modify_plan, jump_plan, branch_plan, jump_register_plan, branch_register_plan, call_plan, call_register_plan, ret_plan, ret_constant_plan, enter_bank_plan, leave_bank_plan, enter_special_plan, leave_special_plan}
 
+-- the write, if any, is to the cell of f that d is
+abbrev pub Hits : (ℕ → Destination) → Destination → Option Write → Type 0
+Hits f d None = Unit {0}
+Hits f d (Some w) = d ≡ f w.at
+
 -- the writes of x to registers and data memory, if any, are to d
 pub record Writes-to (d : Destination) (x : Change) : Type 0 where
-  pub registers : x.reg.on ≡ true → d ≡ register_cell x.reg.at
-  pub memory : x.dm.on ≡ true → d ≡ data-cell x.dm.at
+  pub registers : Hits register_cell d x.reg
+  pub memory : Hits data-cell d x.dm
 
-module _ {m : Core} {stack logat logval : Write} where
+module _ {m : Core} {stack logat logval : Option Write} where
   to_register : {i n : ℕ} → Writes-to (register_cell i) (change m (write i n) off stack logat logval)
-  to_register = record { registers = λ t. refl; memory = λ t. absurd (true≢false (sym t)) }
+  to_register = record { registers = refl; memory = tt }
 
   to_memory : {i n : ℕ} → Writes-to (data-cell i) (change m off (write i n) stack logat logval)
-  to_memory = record { registers = λ t. absurd (true≢false (sym t)); memory = λ t. refl }
+  to_memory = record { registers = tt; memory = refl }
 
   to_none : Writes-to nowhere (change m off off stack logat logval)
-  to_none = record { registers = λ t. absurd (true≢false (sym t)); memory = λ t. absurd (true≢false (sym t)) }
+  to_none = record { registers = tt; memory = tt }
 
 pub plan_writes : (v : View) (i : Instruction) (k : Kind) → Writes-to (destination_of v i k) (plan_of v i k)
 unfolding destination_of plan_of compare_plan compute_plan multiply_plan load_index_plan index_store_plan index_load_plan move_plan load_constant_plan load_register_plan load_direct_plan store_register_plan store_direct_plan port_read_plan port_write_plan port_modify_plan jump_plan branch_plan jump_register_plan branch_register_plan call_plan call_register_plan ret_plan ret_constant_plan enter_bank_plan leave_bank_plan enter_special_plan leave_special_plan

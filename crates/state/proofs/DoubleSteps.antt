@@ -57,7 +57,7 @@ module _ (e : Env) where
       let g = step_accepted e s h.done in
       let p = plan_compute o x s h.kind in
       let r = result (view_of e s) (parts_at e s) o x in
-      let l : cell (view_of e s) (parts_at e s).destination < e.config.rmsize = (rw p at (lands e s g d.passed).reg.cell) tt in
+      let l : cell (view_of e s) (parts_at e s).destination < e.config.rmsize = rw p at (lands e s g d.passed).reg in
       rw (d.made, p)
       (record {
         wp = refl;

@@ -8,6 +8,7 @@ use native.Mathlib.Numerals.{add-one}
 use native.Mathlib.Omega.{arith}
 use lib.Dec.{T, eqb}
 use lib.ListN.{length, get_or}
+use Rattle.std.specs.Prelude.{Option}
 use Rattle.laws.specs.Choice.{pick, either}
 use Rattle.laws.specs.Test.{eq→eqb, Holds}
 use Rattle.laws.specs.Cells.{below_at, below_above, below_from}
@@ -38,20 +39,6 @@ use Rattle.state.proofs.Stops.{tells, a_register, a_target, an_address, with_ban
 use Rattle.state.proofs.Cores.{kept_at, kept_banked, kept_indexed, kept_flagged, kept_multiplied, kept_deep, kept_masked, kept_posting, kept_taking, kept_logging}
 use Rattle.state.specs.Landing.{Inside}
 use Rattle.state.proofs.Step.{Small, Sound}
-
--- a write of a small value, and none
-wrote : {b i v : ℕ} → v < b → Small b (write i v)
-wrote h = record { below = λ t. h }
-
-no_write : {b : ℕ} → Small b off
-no_write = record { below = λ t. absurd t }
-
--- at a cell, and at none
-landed : {n i v : ℕ} → i < n → Inside n (write i v)
-landed h = record { cell = λ t. h }
-
-nowhere : {n : ℕ} → Inside n off
-nowhere = record { cell = λ t. absurd t }
 
 module _ (e : Env) (s : State) (g : Good e s) where
   abbrev c : Config
@@ -116,7 +103,7 @@ module _ (e : Env) (s : State) (g : Good e s) where
     to h = kept_at onward h
 
     -- changes that leave the return stack
-    plain : {m : Core} {reg dm at' val' : Write} →
+    plain : {m : Core} {reg dm at' val' : Option Write} →
         In m →
         m.depth ≡ s.core.depth →
         Small (top c) reg →
@@ -132,19 +119,19 @@ module _ (e : Env) (s : State) (g : Good e s) where
           core = h;
           reg = r;
           dm = q;
-          stack = no_write;
-          landing = record { reg = r'; dm = q'; stack = nowhere; logat = a; logval = v };
+          stack = tt;
+          landing = record { reg = r'; dm = q'; stack = tt; logat = a; logval = v };
           zeros = rw d g.zeros;
         }
 
     moved_sound : {m : Core} → In m → m.depth ≡ s.core.depth → Sound e s (moved m)
-    moved_sound h d = plain h d no_write nowhere no_write nowhere nowhere nowhere
+    moved_sound h d = plain h d tt tt tt tt tt tt
 
     register_sound : {m : Core} {r x : ℕ} → In m → m.depth ≡ s.core.depth → x < top c → r < c.rmsize → Sound e s (to_register m r x)
-    register_sound h d q l = plain h d (wrote q) (landed l) no_write nowhere nowhere nowhere
+    register_sound h d q l = plain h d q l tt tt tt tt
 
     memory_sound : {m : Core} {a x : ℕ} → In m → m.depth ≡ s.core.depth → x < top c → a < c.dmsize → Sound e s (to_memory m a x)
-    memory_sound h d q l = plain h d no_write nowhere (wrote q) (landed l) nowhere nowhere
+    memory_sound h d q l = plain h d tt tt q l tt tt
 
     -- cells of the active bank
     in-bank : {r : ℕ} → r < c.regsize → cell v r < c.rmsize
@@ -243,19 +230,19 @@ module _ (e : Env) (s : State) (g : Good e s) where
     port_write_sound : (x : Operand) → s.core.logged < length s.addresses → Sound e s (port_write_plan v i x)
     unfolding port_write_plan
     port_write_sound x k =
-        plain (kept_posting (kept_logging onward k) (loud (register_word i.destination))) refl no_write nowhere no_write nowhere
-        (landed k)
-        (landed k)
+        plain (kept_posting (kept_logging onward k) (loud (register_word i.destination))) refl tt tt tt tt
+        k
+        k
 
     port_modify_sound : s.core.taken < length e.inputs → s.core.logged < length s.addresses → T (is r.destination register-part) → Sound e s (port_modify_plan v i)
     unfolding port_modify_plan
     port_modify_sound k l a =
-        plain (kept_posting (kept_logging (kept_taking onward k) l) (loud (register_word i.source))) refl (wrote (cut _))
-        (landed (assigned a))
-        no_write
-        nowhere
-        (landed l)
-        (landed l)
+        plain (kept_posting (kept_logging (kept_taking onward k) l) (loud (register_word i.source))) refl (cut _)
+        (assigned a)
+        tt
+        tt
+        l
+        l
 
     -- control
 
@@ -278,15 +265,15 @@ module _ (e : Env) (s : State) (g : Good e s) where
     call_sound a d h =
         record {
           core = kept_deep (to h) (omega arith);
-          reg = no_write;
-          dm = no_write;
-          stack = wrote (omega (arith, t.pc));
+          reg = tt;
+          dm = tt;
+          stack = omega (arith, t.pc);
           landing =
-              record { reg = nowhere; dm = nowhere; stack = landed (omega (arith, law.stack)); logat = nowhere; logval = nowhere };
+              record { reg = tt; dm = tt; stack = omega (arith, law.stack); logat = tt; logval = tt };
           zeros = rw (add-one s.core.depth) (below_above 1 s.stack s.core.depth (s.core.pc + 1) g.zeros);
         }
 
-    ret_sound : {reg : Write} →
+    ret_sound : {reg : Option Write} →
         0 < s.core.depth →
         Small (top c) reg →
         Inside c.rmsize reg →
@@ -300,15 +287,15 @@ module _ (e : Env) (s : State) (g : Good e s) where
               kept_deep (to (omega (arith, below_at (c.imsize + 1) s.stack n (omega arith) g.addresses, law.image)))
               (omega (arith, g.core.depth));
           reg = q;
-          dm = no_write;
-          stack = wrote (omega arith);
+          dm = tt;
+          stack = omega arith;
           landing =
               record {
                 reg = l;
-                dm = nowhere;
-                stack = landed (omega (arith, g.core.depth, law.stack));
-                logat = nowhere;
-                logval = nowhere;
+                dm = tt;
+                stack = omega (arith, g.core.depth, law.stack);
+                logat = tt;
+                logval = tt;
               };
           zeros = below_from 1 s.stack n 0 (omega arith) (rw u g.zeros);
         }
@@ -386,8 +373,8 @@ module _ (e : Env) (s : State) (g : Good e s) where
     by_kind (branch_register k) p q = branch_sound k (register_target (D v i)) register_target_lem
     by_kind call p q = call_sound i.value (q.not_full tt) (direct_target p)
     by_kind call_register p q = call_sound (register_target (D v i)) (q.not_full tt) register_target_lem
-    by_kind ret p q = ret_sound (q.not_empty tt) no_write nowhere
-    by_kind ret_constant p q = ret_sound (q.not_empty tt) (wrote (constant_word _ _)) (landed (assigned p))
+    by_kind ret p q = ret_sound (q.not_empty tt) tt tt
+    by_kind ret_constant p q = ret_sound (q.not_empty tt) (constant_word _ _) (assigned p)
     by_kind enter_bank p q =
         enter_bank_sound (a_target c r.value i.value (inr p.0) fits_value) (q.bank.0 tt) (with_banks c r.option p.1 t.option)
     by_kind leave_bank p q = leave_bank_sound (q.bank.1 tt)

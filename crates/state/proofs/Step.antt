@@ -3,9 +3,8 @@
 use Prim.Native.Nat.{ℕ, ◌+◌, ◌<◌}
 use mathlib.Core.Path.{◌≡◌, refl}
 use mathlib.Core.List.{List}
-use lib.Dec.{T}
-use lib.ListN.{length, drop, set, length-set}
-use Rattle.laws.specs.Choice.{either}
+use lib.ListN.{length, drop, length-set}
+use Rattle.std.specs.Prelude.{Option, Some, None}
 use Rattle.laws.specs.Test.{Below}
 use Rattle.laws.specs.Cells.{below_set}
 use Rattle.state.specs.declared.Write.{Write}
@@ -16,8 +15,9 @@ use Rattle.state.specs.Good.{Ranged, Good}
 use Rattle.state.specs.Landing.{Landing}
 
 -- what is written, if anything, is below b
-pub record Small (b : ℕ) (w : Write) : Type 0 where
-  pub below : T w.on → w.value < b
+abbrev pub Small : ℕ → Option Write → Type 0
+Small b None = Unit {0}
+Small b (Some w) = w.value < b
 
 pub record Sound (e : Env) (s : State) (x : Change) : Type 0 where
   pub core : Ranged e.config (length e.inputs) (length s.addresses) x.core
@@ -27,15 +27,15 @@ pub record Sound (e : Env) (s : State) (x : Change) : Type 0 where
   pub landing : Landing e.config.rmsize e.config.dmsize (length s.addresses) x
   pub zeros : Below 1 (drop x.core.depth (put_of x.stack s.stack))
 
-pub put_length : (w : Write) (xs : List ℕ) → length (put_of w xs) ≡ length xs
+pub put_length : (w : Option Write) (xs : List ℕ) → length (put_of w xs) ≡ length xs
 unfolding put_of
-put_length w xs =
-    either (λ ys. length ys ≡ length xs) w.on (set xs w.at w.value) xs (λ t. length-set xs w.at w.value) (λ f. refl)
+put_length None xs = refl
+put_length (Some w) xs = length-set xs w.at w.value
 
-pub put_below : (b : ℕ) (w : Write) (xs : List ℕ) → Small b w → Below b xs → Below b (put_of w xs)
+pub put_below : (b : ℕ) (w : Option Write) (xs : List ℕ) → Small b w → Below b xs → Below b (put_of w xs)
 unfolding put_of
-put_below b w xs q h =
-    either (Below b) w.on (set xs w.at w.value) xs (λ t. below_set b xs w.at w.value (q.below t) h) (λ f. h)
+put_below b None xs q h = h
+put_below b (Some w) xs q h = below_set b xs w.at w.value q h
 
 pub applied_good : (e : Env) (s : State) (x : Change) → Good e s → Sound e s x → Good e (applied x s)
 unfolding applied

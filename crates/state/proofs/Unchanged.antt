@@ -2,12 +2,12 @@
 -- Assumes nothing.
 use Prim.Native.Nat.{ℕ}
 use mathlib.Core.Path.{◌≡◌, refl, sym, ap, ◌∙◌}
-use mathlib.Core.Bool.{true}
 use mathlib.Core.List.{List}
 use lib.Dec.{eqb}
-use lib.ListN.{get_or, set}
+use lib.ListN.{get_or}
 use lib.Seq.{get_or-set_other}
-use Rattle.laws.specs.Choice.{either, is_true}
+use Rattle.std.specs.Prelude.{Option, Some, None}
+use Rattle.laws.specs.Choice.{either}
 use Rattle.laws.specs.First.{first_failing}
 use Rattle.state.specs.declared.Write.{Write}
 use Rattle.state.specs.State.{Env, State}
@@ -15,9 +15,9 @@ use Rattle.state.specs.Ranges.{guards}
 use Rattle.state.specs.Step.{Outcome, refused, number, put_of, applied, plan_at, advance_of, step_of}
 use Rattle.state.specs.Claims.{RefusedStays, CellsStay}
 use Rattle.state.specs.Operands.{view_of}
-use Rattle.state.specs.Destinations.{register_cell, data-cell}
+use Rattle.state.specs.Destinations.{Destination, register_cell, data-cell}
 use Rattle.state.specs.Stops.{parts_at, kind_at}
-use Rattle.state.proofs.Destinations.{plan_writes}
+use Rattle.state.proofs.Destinations.{Hits, plan_writes}
 
 -- what holds of the state before, and of the state that the change makes, holds after a step
 module _ (P : State → Type 0) (e : Env) (s : State) (before : P s) (made : P (applied (plan_at e s) s)) where
@@ -45,12 +45,11 @@ refused_stays e s =
     (λ f h. refl)
 
 -- a write leaves every cell but its own
-put_elsewhere : (w : Write) (xs : List ℕ) (j : ℕ) → (w.on ≡ true → w.at ≡ j → ⊥) → get_or (put_of w xs) j 0 ≡ get_or xs j 0
+put_elsewhere : (f : ℕ → Destination) (d : Destination) (w : Option Write) (xs : List ℕ) (j : ℕ) → Hits f d w → (d ≡ f j → ⊥) →
+    get_or (put_of w xs) j 0 ≡ get_or xs j 0
 unfolding put_of
-put_elsewhere w xs j h =
-    either (λ ys. get_or ys j 0 ≡ get_or xs j 0) w.on (set xs w.at w.value) xs
-    (λ t. get_or-set_other xs w.at j w.value 0 (λ q. h (is_true w.on t) (sym q)))
-    (λ f. refl)
+put_elsewhere f d None xs j t h = refl
+put_elsewhere f d (Some w) xs j t h = get_or-set_other xs w.at j w.value 0 (λ q. h (t ∙ ap f (sym q)))
 
 pub cells_stay : CellsStay
 unfolding applied plan_at
@@ -59,9 +58,9 @@ cells_stay =
       registers = λ e s j h.
           let w = plan_writes (view_of e s) (parts_at e s) (kind_at e s) in
           step_holds (λ t. get_or t.registers j 0 ≡ get_or s.registers j 0) e s refl
-          (put_elsewhere (plan_at e s).reg s.registers j (λ on q. h (w.registers on ∙ ap register_cell q)));
+          (put_elsewhere register_cell _ (plan_at e s).reg s.registers j w.registers h);
       memory = λ e s j h.
           let w = plan_writes (view_of e s) (parts_at e s) (kind_at e s) in
           step_holds (λ t. get_or t.memory j 0 ≡ get_or s.memory j 0) e s refl
-          (put_elsewhere (plan_at e s).dm s.memory j (λ on q. h (w.memory on ∙ ap data-cell q)));
+          (put_elsewhere data-cell _ (plan_at e s).dm s.memory j w.memory h);
     }

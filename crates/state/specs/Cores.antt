@@ -1,5 +1,5 @@
 -- The core after one small change: what a step is put together from. The methods of Core hand these back.
-use Rattle.std.specs.Prelude.{ℕ, ◌+◌, eqb, true, false}
+use Rattle.std.specs.Prelude.{ℕ, ◌+◌, eqb, Option, Some, None}
 use Rattle.laws.specs.Choice.{pick, decided, swapped}
 use Rattle.state.specs.declared.Core.{Core}
 use Rattle.state.specs.declared.Write.{Write}
@@ -81,13 +81,13 @@ logging m = positioned m m.taken (m.logged + 1)
 
 -- writes and changes
 
-abbrev pub off : Write
-off = record { on = false; at = 0; value = 0 }
+abbrev pub off : Option Write
+off = None
 
-abbrev pub write : ℕ → ℕ → Write
-write i v = record { on = true; at = i; value = v }
+abbrev pub write : ℕ → ℕ → Option Write
+write i v = Some (record { at = i; value = v })
 
-abbrev pub change : Core → Write → Write → Write → Write → Write → Change
+abbrev pub change : Core → Option Write → Option Write → Option Write → Option Write → Option Write → Change
 change m reg dm stack logat logval =
     record { stop = 0; core = m; reg = reg; dm = dm; stack = stack; logat = logat; logval = logval }
 

@@ -1,5 +1,5 @@
 -- One step: its number, and, where that is 0, its next state and its cycles.
-use Rattle.std.specs.Prelude.{ℕ, ◌+◌, ◌&&◌, ◌||◌, not, List, eqb, set}
+use Rattle.std.specs.Prelude.{ℕ, ◌+◌, ◌&&◌, ◌||◌, not, List, Option, Some, None, eqb, set}
 use Rattle.laws.specs.Choice.{pick}
 use Rattle.laws.specs.First.{first_failing}
 use Rattle.words.specs.declared.Config.{Config}
@@ -17,8 +17,9 @@ use Rattle.state.specs.Stops.{parts_at, kind_at, facts_at, stops}
 unfoldable pub number : Env → State → ℕ
 number e s = first_failing (stops e s)
 
-unfoldable pub put_of : Write → List ℕ → List ℕ
-put_of w xs = pick w.on (set xs w.at w.value) xs
+unfoldable pub put_of : Option Write → List ℕ → List ℕ
+put_of None xs = xs
+put_of (Some w) xs = set xs w.at w.value
 
 -- a change carried out: the one place where memories change
 unfoldable pub applied : Change → State → State

@@ -1,6 +1,6 @@
 // The step helpers: each takes the core by value and hands the new one back, or the change that it makes.
 ghost use Rattle.std.specs.Prelude.{◌≡◌};
-ghost use Rattle.state.specs.Cores.{at, posting, flagged, indexed, multiplied, deep, masked, banked, positioned, off, write, change, stopped, moved, to_register, to_memory, to_stack, to_log};
+ghost use Rattle.state.specs.Cores.{at, posting, flagged, indexed, multiplied, deep, masked, banked, positioned, off, change, stopped, moved, to_register, to_memory, to_stack, to_log};
 ghost use Rattle.state.specs.State.{reset_machine, stack_limit};
 
 use crate::{Change, Core, Machine, Write};
@@ -57,6 +57,7 @@ impl Machine {
     }
 }
 
+// Each method changes its own copy: by struct updates a compiled step has six instructions more (50.8 in place of 44.8).
 impl Core {
     // Control goes to p, and nothing is posted any more.
     pub fn go(mut self, p: usize) -> Core
@@ -149,16 +150,23 @@ impl Core {
         Change {
             stop: n,
             core: self,
-            reg: Write::off(),
-            dm: Write::off(),
-            stack: Write::off(),
-            logat: Write::off(),
-            logval: Write::off(),
+            reg: None,
+            dm: None,
+            stack: None,
+            logat: None,
+            logval: None,
         }
     }
 
     // This core next, with these writes.
-    pub fn change(self, reg: Write, dm: Write, stack: Write, logat: Write, logval: Write) -> Change
+    pub fn change(
+        self,
+        reg: Option<Write>,
+        dm: Option<Write>,
+        stack: Option<Write>,
+        logat: Option<Write>,
+        logval: Option<Write>,
+    ) -> Change
         ensures { result ≡ change self reg dm stack logat logval }
     {
         Change {
@@ -175,57 +183,36 @@ impl Core {
     pub fn moved(self) -> Change
         ensures { result ≡ moved self }
     {
-        let off = Write::off();
-        self.change(off, off, off, off, off)
+        self.change(None, None, None, None, None)
     }
 
     pub fn to_register(self, at: usize, value: u32) -> Change
         ensures { result ≡ to_register self at value }
     {
-        let off = Write::off();
-        self.change(Write::to(at, value), off, off, off, off)
+        self.change(Some(Write { at, value }), None, None, None, None)
     }
 
     pub fn to_memory(self, at: usize, value: u32) -> Change
         ensures { result ≡ to_memory self at value }
     {
-        let off = Write::off();
-        self.change(off, Write::to(at, value), off, off, off)
+        self.change(None, Some(Write { at, value }), None, None, None)
     }
 
     pub fn to_stack(self, at: usize, value: u32) -> Change
         ensures { result ≡ to_stack self at value }
     {
-        let off = Write::off();
-        self.change(off, off, Write::to(at, value), off, off)
+        self.change(None, None, Some(Write { at, value }), None, None)
     }
 
     pub fn to_log(self, at: usize, address: u32, value: u32) -> Change
         ensures { result ≡ to_log self at address value }
     {
-        let off = Write::off();
-        self.change(off, off, off, Write::to(at, address), Write::to(at, value))
-    }
-}
-
-impl Write {
-    pub fn off() -> Write
-        ensures { result ≡ off }
-    {
-        Write {
-            on: false,
-            at: 0,
-            value: 0,
-        }
-    }
-
-    pub fn to(at: usize, value: u32) -> Write
-        ensures { result ≡ write at value }
-    {
-        Write {
-            on: true,
-            at,
-            value,
-        }
+        self.change(
+            None,
+            None,
+            None,
+            Some(Write { at, value: address }),
+            Some(Write { at, value }),
+        )
     }
 }

@@ -49,25 +49,6 @@ stack_cut most n r xs p q e =
     let rest : take (length xs - n) (drop n xs) ≡ drop n xs = take_all (length xs - n) (drop n xs) (simp length-drop (omega arith)) in
     rw (q, e, rest, join_zero (drop n xs)) (below_cut (most + 1) n xs (omega arith))
 
-never : {A : Type 0} → true ≡ false → A
-never h =
-    let z : ◌≡◌ {A = ℕ} 0 1 = cc in
-    let n : ⊥ = omega arith in
-    absurd n
-
--- a test of four parts, of which the first three are asked first
-pub three_fail : (a b c d : Bool) → (a && (b && c)) ≡ false → false ≡ (a && (b && (c && d)))
-three_fail true true true d h = never h
-three_fail true true false d h = refl
-three_fail true false c d h = refl
-three_fail false b c d h = refl
-
-pub three_pass : (a b c d : Bool) → (a && (b && c)) ≡ true → d ≡ (a && (b && (c && d)))
-three_pass true true true d h = refl
-three_pass true true false d h = never (sym h)
-three_pass true false c d h = never (sym h)
-three_pass false b c d h = never (sym h)
-
 -- the words of both memories: at W = 32 every cell is below 2^32
 pub words_all : (w top : ℕ) (xs ys : List ℕ) → top ≡ 2 ^ w → 4294967296 ≤ top → ((i : ℕ) → get_or xs i 0 < 2 ^ 32) → ((i : ℕ) → get_or ys i 0 < 2 ^ 32) →
     true ≡ (below (2 ^ w) xs && below (2 ^ w) ys)

@@ -7,11 +7,13 @@ use native.Mathlib.Nat.{add-zero}
 use borrow.Author.Tests.{eqb-true, eqb-false}
 use lib.Dec.{eqb}
 use Rattle.laws.specs.Choice.{pick}
-use Rattle.state.specs.State.{Env, State}
+use Rattle.state.specs.State.{Env, State, state}
 use Rattle.state.specs.Stops.{facts_at}
 use Rattle.state.specs.Step.{Outcome, refused, applied, plan_at, cycles_of, advance_of}
 use Rattle.state.specs.Run.{ended, after, run_of}
 use Rattle.machine.specs.Stepping.{End, end_of}
+use Rattle.machine.specs.Numbers.{Numbered}
+use Rattle.machine.proofs.Numbers.{advance_named, run_named}
 
 -- a run of one step is that step
 
@@ -45,3 +47,28 @@ refusing e s = go (eqb (Rattle.state.specs.Step.number e s) 0)
 pub one_step : (e : Env) (s : State) (x : End) → x ≡ end_of (run_of 1 e s) → outcome x ≡ advance_of e s
 unfolding run_of
 one_step e s x q = ap outcome q ∙ only (advance_of e s) s (refusing e s)
+
+module _ (e : Env) (s : State) (x : End) (q : x ≡ end_of (run_of 1 e s)) where
+  pub step_named : Numbered x.number
+  step_named = rw (ap (λ (o : Outcome). o.number) (one_step e s x q)) (advance_named e s)
+
+  -- one that is carried out
+  pub passed_step : 0 ≡ x.number → ◌≡◌ {A = Outcome} (record { number = 0; cycles = x.cycles; state = x.last }) (advance_of e s)
+  passed_step z = same_outcome z refl ∙ one_step e s x q
+
+  -- one that is stopped: it left the state as it was
+  pub stopped_step : (n : ℕ) → n ≡ x.number → (n ≡ 0 → ⊥) →
+      refused n (state s.core x.last.stack x.last.registers x.last.memory x.last.addresses x.last.values) ≡ advance_of e s
+  stopped_step n k h =
+      let a = one_step e s x q in
+      let named : n ≡ (advance_of e s).number = k ∙ ap (λ (o : Outcome). o.number) a in
+      let r = refusing e s (λ z. h (named ∙ z)) in
+      let still : x.last ≡ s = ap (λ (o : Outcome). o.state) (a ∙ r) in
+      ap (λ (t : State). refused n (state s.core t.stack t.registers t.memory t.addresses t.values)) still ∙ (ap (λ (j : ℕ). refused j s) named ∙ sym r)
+
+-- the end of a run with its number written in another way
+pub renumbered : (n : ℕ) (x : End) → n ≡ x.number → ◌≡◌ {A = End} (record { number = n; steps = x.steps; cycles = x.cycles; last = x.last }) x
+renumbered n x q = ap (λ (j : ℕ). record { number = j; steps = x.steps; cycles = x.cycles; last = x.last }) q
+
+pub turns_named : (e : Env) (s : State) (n : ℕ) (x : End) → x ≡ end_of (run_of n e s) → Numbered x.number
+turns_named e s n x q = rw (ap (λ (y : End). y.number) q) (run_named n e s)

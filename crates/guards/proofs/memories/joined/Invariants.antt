@@ -1,12 +1,9 @@
 -- `guards::memories::joined` meets its contract. Assumes nothing.
 use mathlib.Core.Path.{◌≡◌}
-use Prim.Native.Nat.{◌-◌}
-use lib.ListN.{length, drop}
-use Rattle.guards.specs.Joins.{join_from, join_of}
+use lib.Bits.{bit_or}
+use lib.ListN.{take}
+use Rattle.std.specs.List.{fold}
 use Rattle.guards.proofs.memories.joined.Given as goal
 
-abbrev pub invariant-loop-i : goal.invariant-loop-i
-invariant-loop-i l = join_from l.all (drop l.i l.xs) ≡ join_of l.xs
-
-abbrev pub decreases-loop-i : goal.decreases-loop-i
-decreases-loop-i l = length l.xs - l.i
+abbrev pub invariant-loop-x : goal.invariant-loop-x
+invariant-loop-x l = l.all ≡ fold bit_or 0 (take l.x-index l.xs)

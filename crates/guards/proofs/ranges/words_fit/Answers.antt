@@ -1,15 +1,10 @@
 -- `guards::ranges::words_fit` meets its contract. Assumes nothing.
-use lib.Bits.{or_lt}
 use Rattle.arith.specs.Width.{bits}
 use Rattle.guards.proofs.ranges.Laws.{words_all, words_joined}
-use borrow.Author.Rules.{rules}
 use Rattle.guards.proofs.ranges.words_fit.Goals as goal
 
 pub returns-then-top-ge-WORD_TOP : goal.returns-then-top-ge-WORD_TOP
 returns-then-top-ge-WORD_TOP c = words_all (bits c.args.width) _ c.args.registers.now c.args.memory.now c.top_of-top.ensures.0 c.if-top-ge-WORD_TOP.true (λ i. (c.type_inv.registers i).fits) (λ i. (c.type_inv.memory i).fits)
 
-pub overflow_cast-result : goal.overflow_cast-result
-overflow_cast-result c = record { fits = or_lt 64 c.joined.result c.joined-2.result (search rules) (search rules) }
-
 pub returns : goal.returns
-returns c = words_joined (bits c.args.width) _ _ _ c.args.registers.now c.args.memory.now c.top_of-top.ensures.0 c.joined.ensures c.joined-2.ensures
+returns c = rw c.from.ensures (words_joined (bits c.args.width) _ _ _ c.args.registers.now c.args.memory.now c.top_of-top.ensures.0 c.joined.ensures c.joined-2.ensures)

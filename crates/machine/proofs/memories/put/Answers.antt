@@ -1,12 +1,12 @@
 -- `machine::memories::put` meets its contract. Assumes nothing.
-use Rattle.laws.specs.Choice.{pick}
+use borrow.Author.Rules.{rules}
 use Rattle.state.specs.Step.{put_of}
 use Rattle.machine.proofs.memories.put.Goals as goal
 
-pub returns-then-w : goal.returns-then-w
-unfolding put_of pick
-returns-then-w c = rw c.if-w.true
+pub returns-in-Some : goal.returns-in-Some
+unfolding put_of
+returns-in-Some c = search rules
 
-pub returns-else-w : goal.returns-else-w
-unfolding put_of pick
-returns-else-w c = rw c.if-w.false
+pub returns-in_default : goal.returns-in_default
+unfolding put_of
+returns-in_default c = search rules

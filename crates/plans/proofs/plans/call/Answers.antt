@@ -6,7 +6,7 @@ use Rattle.plans.proofs.plans.call.Goals as goal
 
 pub returns-then-d-limit : goal.returns-then-d-limit
 unfolding up pick
-returns-then-d-limit c = rw (lt-ltb _ _ c.if-d-limit.true, c.to_stack.ensures, c.deep.ensures, c.go.ensures, c.wrapping_add_usize-back.ensures.value)
+returns-then-d-limit c = rw (lt-ltb _ _ c.if-d-limit.true, c.to_stack.ensures, c.deep.ensures, c.go.ensures)
 
 pub returns : goal.returns
 unfolding pick

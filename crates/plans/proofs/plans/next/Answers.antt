@@ -4,4 +4,4 @@ use Rattle.plans.proofs.plans.next.Goals as goal
 
 pub returns : goal.returns
 unfolding up
-returns c = rw (c.go.ensures, c.wrapping_add_usize.ensures.value)
+returns c = rw c.go.ensures

@@ -17,4 +17,4 @@ returns-then-room-l c = rw (sym c.near.ensures ∙ c.if-not-near.false, lt-ltb _
 
 pub returns : goal.returns
 unfolding pick
-returns c = rw (sym c.near.ensures ∙ c.if-not-near.false, lt-ltb _ _ c.if-inputs-t.false, lt-ltb _ _ c.if-room-l.false, c.change.ensures, c.posting.ensures, c.positioned.ensures, c.next.ensures, c.to.ensures, c.to-2.ensures, c.to-3.ensures, c.off-off.ensures, c.with_top_bit-y.ensures, c.cut-x.ensures, c.wide.ensures)
+returns c = rw (sym c.near.ensures ∙ c.if-not-near.false, lt-ltb _ _ c.if-inputs-t.false, lt-ltb _ _ c.if-room-l.false, c.change.ensures, c.posting.ensures, c.positioned.ensures, c.next.ensures, c.with_top_bit-y.ensures, c.cut-x.ensures, c.wide.ensures)

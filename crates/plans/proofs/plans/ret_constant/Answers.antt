@@ -9,4 +9,4 @@ returns-then-d-eq0 c = simp (c.if-d-eq0.true, c.stopped.ensures)
 
 pub returns : goal.returns
 unfolding pick
-returns c = let h : 0 < c.args.m.depth = omega arith in simp (lt-ltb _ _ h, c.change.ensures, c.returned.ensures, c.to.ensures, c.to-2.ensures, c.off-off.ensures)
+returns c = let h : 0 < c.args.m.depth = omega arith in simp (lt-ltb _ _ h, c.change.ensures, c.returned.ensures)

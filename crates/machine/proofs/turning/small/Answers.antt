@@ -1,7 +1,0 @@
--- `machine::turning::small` meets its contract. Assumes nothing.
-use native.Mathlib.Omega.{arith}
-use Rattle.machine.proofs.Cached.{none_cached}
-use Rattle.machine.proofs.turning.small.Goals as goal
-
-pub turning-requires : goal.turning-requires
-turning-requires c = (none_cached c.args.c c.args.image.now 127 256 (omega arith), c.requires.0, c.requires.1, c.requires.2)
