@@ -1,5 +1,5 @@
 pub mod Answers
-pub mod Reading
+pub mod Successors
 pub mod Judging
 pub mod Settling
 pub mod Demand

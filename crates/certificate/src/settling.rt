@@ -1,163 +1,95 @@
 // Most addresses that keep every rule are settled at once, from the marks of the word's row: the eight rules are asked one by one only of the others.
-ghost use Rattle.std.specs.Prelude.{◌≡◌, false, ◌+◌, ◌<◌, T, length};
-ghost use Rattle.laws.specs.Test.{Holds};
+ghost use Rattle.std.specs.Prelude.{◌≡◌, false, ◌+◌, T};
 ghost use Rattle.rules.specs.Marks.{mark_at, sub_of};
 ghost use Rattle.rules.specs.Rules.{reads_port};
 ghost use Rattle.rules.specs.Check.{lowest};
-ghost use Rattle.state.specs.State.{stack_limit};
-ghost use Rattle.words.specs.declared.Config.{Config as Configuration};
-ghost use Rattle.words.specs.Configs.{lawful};
-ghost use Rattle.words.specs.Lookup.{Limits};
-ghost use Rattle.words.specs.Packed.{Tables, parts_lent};
-ghost use Rattle.certificate.specs.Settling.{mark_after, Follows, Allowed};
+ghost use Rattle.words.specs.Packed.{base_table, row_table, parts_lent};
+ghost use Rattle.certificate.specs.Settling.{Follows, Allowed};
 
-use crate::reading::{mark_at, word_at};
-use words::{Config, Facts};
-
-// A mark: the level, and above it the weights of bits 6 and 7.
-const LEVELS: u32 = 64;
-
-const SPECIAL: u32 = 128;
-
-const UNUSED: u32 = 255;
-
-// Mark x with the mode that the word leaves.
-fn mark_after(f: Facts, x: u32) -> u32
-    ensures { result ≡ mark_after f x }
-{
-    if f.enters {
-        return x % SPECIAL + SPECIAL;
-    }
-    if f.leaves {
-        return x % SPECIAL;
-    }
-    x
-}
+use crate::judging::stays_special;
+use crate::marks::Mark;
+use crate::sheet::Sheet;
+use words::Facts;
 
 // Whether a successor of mark y keeps rules 4 to 7 after a word that leaves mark e.
-fn follows(call: bool, e: u32, y: u32) -> bool
-    requires { e < 255 }
-    ensures { T result → Follows call e y }
+fn follows(call: bool, e: Mark, y: Mark) -> bool
+    ensures { T result → Follows call e.byte y.byte }
 {
+    if !e.is_used() {
+        return false;
+    }
     if call {
-        (y / LEVELS == e / SPECIAL * 2 + 1) & (y % LEVELS < e % LEVELS)
+        (y.flags() == e.mode() * 2 + 1) & (y.level() < e.level())
     } else {
-        (y <= e) & (y / LEVELS == e / LEVELS)
+        (y.byte <= e.byte) & (y.flags() == e.flags())
     }
 }
 
 // Whether word w, of row n, may stand in the mode of mark x.
-fn allowed(c: Config, bases: &[u32], packs: &[u64], n: u32, w: u32, f: Facts, x: u32) -> bool
-    ensures { T result → Allowed f (parts_lent bases.now packs.now c n w).source x }
+fn allowed(sheet: &Sheet, n: u32, w: u32, f: Facts, x: Mark) -> bool
+    ensures { T result → Allowed f (parts_lent base_table row_table sheet.now.reader.now.config n w).source x.byte }
 {
-    if x < SPECIAL {
+    if x.mode() == 0 {
         return true;
     }
-    let i = words::parts_lent(bases, packs, c, n, w);
-    let s = i.source;
-    !f.enters
-        & (f.leaves | (f.reveals & ((s == 0) | ((s == 1) | ((s == 2) | ((s == 3) | (s == 7)))))))
+    let i = sheet.reader.parts(n, w);
+    !f.enters & stays_special(f, i.source)
 }
 
 // Whether after a port write the row of the next word is no port read.
-fn quiet(
-    classes: &[u8],
-    bases: &[u32],
-    packs: &[u64],
-    image: &[u32],
-    next: usize,
-    output: bool,
-) -> bool
-    requires { Tables classes.now bases.now packs.now }
-    ensures { T result → T output → (c : Configuration) → reads_port c image.now next ≡ false }
+fn quiet(sheet: &Sheet, next: usize, output: bool) -> bool
+    ensures { T result → T output → reads_port sheet.now.reader.now.config sheet.now.image.now next ≡ false }
 {
     if !output {
         return true;
     }
-    let n = words::row_lent(classes, word_at(image, next));
-    let f = words::facts_in(words::packed_lent(packs, n));
+    let f = sheet.reader.facts(sheet.reader.row(sheet.word(next)));
     !f.input
 }
 
 // Whether the target of word w, of row n, keeps rules 4 to 7, if it has one.
-fn arrives(
-    c: Config,
-    bases: &[u32],
-    packs: &[u64],
-    certificate: &[u8],
-    n: u32,
-    w: u32,
-    f: Facts,
-    e: u32,
-) -> bool
-    requires { e < 255 }
-    ensures { T result → T f.target → Follows f.calls e (mark_at certificate.now (parts_lent bases.now packs.now c n w).value) }
+fn arrives(sheet: &Sheet, n: u32, w: u32, f: Facts, e: Mark) -> bool
+    ensures { T result → T f.target → Follows f.calls e.byte (mark_at sheet.now.certificate.now (parts_lent base_table row_table sheet.now.reader.now.config n w).value) }
 {
     if !f.target {
         return true;
     }
-    let i = words::parts_lent(bases, packs, c, n, w);
-    let target = i.value as usize;
-    follows(f.calls, e, mark_at(certificate, target))
+    let i = sheet.reader.parts(n, w);
+    follows(f.calls, e, sheet.mark(i.value as usize))
 }
 
 // Whether the next address keeps rules 4 to 7, if it is a successor, and a return stands in a subroutine.
-fn goes_on(certificate: &[u8], next: usize, f: Facts, x: u32, e: u32) -> bool
-    requires { e < 255 }
-    ensures { T result → (T f.next → Follows false e (mark_at certificate.now next)) × (T f.returns → sub_of x ≡ 1) }
+fn goes_on(sheet: &Sheet, next: usize, f: Facts, x: Mark, e: Mark) -> bool
+    ensures { T result → (T f.next → Follows false e.byte (mark_at sheet.now.certificate.now next)) × (T f.returns → sub_of x.byte ≡ 1) }
 {
     if f.next {
-        return !f.returns & follows(false, e, mark_at(certificate, next));
+        return !f.returns & follows(false, e, sheet.mark(next));
     }
-    !f.returns | (x / LEVELS % 2 == 1)
+    !f.returns | (x.sub() == 1)
 }
 
 // Whether address a, of mark x, keeps every rule, as far as it is settled here: address 0 is not, nor a word that is not below the limits of its row.
-pub fn settled(
-    limit: usize,
-    c: Config,
-    classes: &[u8],
-    bases: &[u32],
-    packs: &[u64],
-    entries: &[u32],
-    uppers: &[u64],
-    lowers: &[u64],
-    image: &[u32],
-    certificate: &[u8],
-    a: usize,
-    x: u32,
-) -> bool
-    requires { Tables classes.now bases.now packs.now × Limits c entries.now uppers.now lowers.now × Holds (lawful c) × (a < 4294967296) × (limit ≡ stack_limit c.pcstack) × (length certificate.now ≡ c.imsize) × (x ≡ mark_at certificate.now a) }
-    ensures { T result → lowest c image.now certificate.now a ≡ 0 }
+pub fn settled(sheet: &Sheet, a: u32, x: Mark) -> bool
+    requires { x.byte ≡ mark_at sheet.now.certificate.now a }
+    ensures { T result → lowest sheet.now.reader.now.config sheet.now.image.now sheet.now.certificate.now a ≡ 0 }
 {
-    if a == 0 {
+    if a == 0 || sheet.limit < usize::from(x.level()) {
         return false;
     }
-    if limit < (x % LEVELS) as usize {
+    let w = sheet.word(a as usize);
+    let n = sheet.reader.row(w);
+    if !sheet.reader.below_limits(n, w) {
         return false;
     }
-    let w = word_at(image, a);
-    let n = words::row_lent(classes, w);
-    if !words::below_limits(entries, uppers, lowers, n, w) {
+    let f = sheet.reader.facts(n);
+    let e = x.after(f);
+    let next = a as usize + 1;
+    if f.barred
+        || !allowed(sheet, n, w, f, x)
+        || !quiet(sheet, next, f.output)
+        || !arrives(sheet, n, w, f, e)
+    {
         return false;
     }
-    let f = words::facts_in(words::packed_lent(packs, n));
-    let e = mark_after(f, x);
-    if f.barred {
-        return false;
-    }
-    if UNUSED <= e {
-        return false;
-    }
-    let next = a + 1;
-    if !allowed(c, bases, packs, n, w, f, x) {
-        return false;
-    }
-    if !quiet(classes, bases, packs, image, next, f.output) {
-        return false;
-    }
-    if !arrives(c, bases, packs, certificate, n, w, f, e) {
-        return false;
-    }
-    goes_on(certificate, next, f, x, e)
+    goes_on(sheet, next, f, x, e)
 }

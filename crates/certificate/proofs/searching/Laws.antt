@@ -2,7 +2,8 @@
 -- Assumes nothing.
 use Prim.Native.Nat.{ℕ, suc, ◌+◌, ◌-◌, ◌<◌, ◌≤◌}
 use mathlib.Core.Path.{◌≡◌, sym, ◌∙◌}
-use mathlib.Core.Bool.{true, false}
+use mathlib.Core.Bool.{true, false, ◌&&◌, and-false}
+use lib.Dec.{eqb}
 use mathlib.Core.List.{List}
 use native.Mathlib.Omega.{arith}
 use borrow.Author.Tests.{eq-eqb, ne_eqb}
@@ -11,8 +12,32 @@ use Rattle.laws.specs.Choice.{pick}
 use Rattle.laws.specs.Test.{test}
 use Rattle.words.specs.declared.Config.{Config}
 use Rattle.words.specs.Configs.{lawful}
+use Rattle.certificate.specs.declared.Rule.{Rule}
+use Rattle.certificate.specs.declared.Rule.TheVariants as rule
+use Rattle.certificate.specs.Answers.{rule_number}
 use Rattle.rules.specs.Marks.{mark_at, level_of}
 use Rattle.rules.specs.Check.{Answer, passed, refused, broken, sized, lowest, first_broken, check_of}
+
+-- a broken rule has a number
+pub rule_above : (r : Rule) → rule_number r ≡ 0 → ⊥
+rule_above rule.Start h = omega (arith, h)
+rule_above rule.Limit h = omega (arith, h)
+rule_above rule.Word h = omega (arith, h)
+rule_above rule.Successor h = omega (arith, h)
+rule_above rule.Subroutine h = omega (arith, h)
+rule_above rule.Level h = omega (arith, h)
+rule_above rule.Mode h = omega (arith, h)
+rule_above rule.Port h = omega (arith, h)
+
+-- both lists are as long as asked, or one is not
+pub long_both : (i k n : ℕ) → i ≡ n → k ≡ n → (eqb i n && eqb k n) ≡ true
+long_both i k n e d = rw (eq-eqb i n e, eq-eqb k n d)
+
+pub short_left : (i k n : ℕ) → (i ≡ n → ⊥) → (eqb i n && eqb k n) ≡ false
+short_left i k n h = rw (ne_eqb i n h)
+
+pub short_right : (i k n : ℕ) → (k ≡ n → ⊥) → (eqb i n && eqb k n) ≡ false
+short_right i k n h = rw (ne_eqb k n h) (and-false (eqb i n))
 
 module _ (f : ℕ → ℕ) (p : Answer) (n a : ℕ) where
   pub turn_on : a < n → f a ≡ 0 → first_broken f p (n - a) a ≡ first_broken f p (n - (a + 1)) (a + 1)

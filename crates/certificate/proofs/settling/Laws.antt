@@ -2,15 +2,15 @@
 -- Assumes nothing.
 use Prim.Native.Nat.{ℕ, ◌+◌, ◌/◌, ◌%◌, ◌*◌, ◌<◌, ◌≤◌}
 use mathlib.Core.Path.{◌≡◌, refl, sym, ap, ◌∙◌}
-use mathlib.Core.Bool.{Bool, true, false, not, ◌&&◌, ◌||◌}
+use mathlib.Core.Bool.{Bool, true, false, not, ◌&&◌}
 use mathlib.Core.List.{List, [], ◌∷◌, ◌++◌}
 use native.Mathlib.Omega.{arith}
-use borrow.Author.Tests.{ltb-true, ltb-false, eqb-true, ne_eqb}
+use borrow.Author.Tests.{ltb-true, ltb-false, eqb-true, eqb-false}
 use lib.Dec.{T, eqb, ltb, leb, eqb→eq, ltb→lt, leb→le, not_T, T_not}
 use lib.ListN.{get_or, length, get_or-eq_default}
-use Rattle.laws.specs.Choice.{pick, is_false}
+use Rattle.laws.specs.Choice.{pick, is_false, true_is}
 use Rattle.laws.specs.First.{Obeyed, none_fails}
-use Rattle.laws.specs.Test.{Test, Holds, less, most, same, yes?, if?, ◌and◌, member, and_left, and_right}
+use Rattle.laws.specs.Test.{Test, Holds, test, less, most, same, yes?, if?, ◌and◌, and_left, and_right}
 use Rattle.words.specs.declared.Config.{Config}
 use Rattle.words.specs.declared.Instruction.{Instruction}
 use Rattle.words.specs.declared.Facts.{Facts}
@@ -18,13 +18,12 @@ use Rattle.words.specs.Answers.{reading_of}
 use Rattle.words.specs.Claims.{understood}
 use Rattle.words.specs.Configs.{lawful}
 use Rattle.words.specs.Facts.{facts_of}
-use Rattle.words.specs.Lookup.{Limits, below_lent, entry_table, uppers, lowers}
-use Rattle.words.specs.Packed.{Tables, number_lent, parts_lent, no_packed, facts_in}
+use Rattle.words.specs.Lookup.{below_lent, entry_table, uppers, lowers}
+use Rattle.words.specs.Packed.{class_table, base_table, row_table, number_lent, parts_lent}
 use Rattle.words.specs.Words.{Read, read_lawful, spread, fields_in}
-use Rattle.words.proofs.Packed.{facts_in_lem}
 use Rattle.words.proofs.Quick.{quick_lent, read_parts}
+use Rattle.words.proofs.Statics.{own_tables, own_limits, lawful_here}
 use Rattle.state.specs.State.{stack_limit}
-use Rattle.state.specs.Stops.{specials}
 use Rattle.rules.specs.Marks.{mark_at, used, level_of, sub_of, mode_of}
 use Rattle.rules.specs.Successors.{Successor, successor, successors, for_each}
 use Rattle.rules.specs.Rules.{mode_after, rules, reads_port}
@@ -52,7 +51,7 @@ module _ (f : Facts) (x : ℕ) where
       go false true = omega arith
       go false false = refl
 
-  mode_after_lem : mode_of (mark_after f x) ≡ mode_after f (mode_of x)
+  pub mode_after_lem : mode_of (mark_after f x) ≡ mode_after f (mode_of x)
   unfolding pick
   mode_after_lem = go f.enters f.leaves
     where
@@ -61,27 +60,21 @@ module _ (f : Facts) (x : ℕ) where
       go false true = omega arith
       go false false = refl
 
--- A word in the mode of mark x
-
-pub never : {A : Type 0} (b : Bool) → b ≡ false → T b → A
-never b e h = absurd (rw e at h)
-
-pub normal : (f : Facts) (source x : ℕ) → x < 128 → Allowed f source x
-normal f source x h = (λ t. omega arith, λ t. never _ (ne_eqb (x / 128 % 2) 1 (λ q. omega arith)) t)
-
-pub special : (f : Facts) (source x : ℕ) → T (not f.enters && (f.leaves || f.reveals && member source specials)) → Allowed f source x
-special f source x h = (
-  λ t. absurd (T_not f.enters (and_left (not f.enters) (f.leaves || f.reveals && member source specials) h) t),
-  λ t. and_right (not f.enters) (f.leaves || f.reveals && member source specials) h,
-)
-
 -- A successor that follows: what the code tests of its mark y
 
-pub follows_call : (e y : ℕ) → e < 255 → T (eqb (y / 64) (e / 128 * 2 + 1) && ltb (y % 64) (e % 64)) → Follows true e y
+-- a byte that is used is below 255
+pub used_below : (e : ℕ) → e < 256 → used e ≡ true → e < 255
+used_below e h u = go (eqb e 255) refl
+  where
+    go : (b : Bool) → eqb e 255 ≡ b → e < 255
+    go true q = absurd (rw q at (true_is (used e) u))
+    go false q = let n : e ≡ 255 → ⊥ = eqb-false e 255 q in omega (arith, h, n)
+
+pub follows_call : (e y : ℕ) → e < 255 → T (eqb (y / 64) (e / 128 % 2 * 2 + 1) && ltb (y % 64) (e % 64)) → Follows true e y
 unfolding pick
 follows_call e y h t =
-    let p : y / 64 ≡ e / 128 * 2 + 1 = eqb→eq (y / 64) (e / 128 * 2 + 1) (and_left (eqb (y / 64) (e / 128 * 2 + 1)) (ltb (y % 64) (e % 64)) t) in
-    let q : y % 64 < e % 64 = ltb→lt (y % 64) (e % 64) (and_right (eqb (y / 64) (e / 128 * 2 + 1)) (ltb (y % 64) (e % 64)) t) in
+    let p : y / 64 ≡ e / 128 % 2 * 2 + 1 = eqb→eq (y / 64) (e / 128 % 2 * 2 + 1) (and_left (eqb (y / 64) (e / 128 % 2 * 2 + 1)) (ltb (y % 64) (e % 64)) t) in
+    let q : y % 64 < e % 64 = ltb→lt (y % 64) (e % 64) (and_right (eqb (y / 64) (e / 128 % 2 * 2 + 1)) (ltb (y % 64) (e % 64)) t) in
     let m : y / 128 ≡ e / 128 = omega arith in
     record { used = λ u. omega arith; sub = omega arith; level = omega arith; lower = λ t. q; mode = ap (λ n. n % 2) m }
 
@@ -194,46 +187,42 @@ unfolding parts_lent spread fields_in
 row_of_parts bs ps c n w = refl
 
 -- a word whose row is no port read is none
-pub quiet_row : (cs bs ps image : List ℕ) (next w n p : ℕ) (f : Facts) → Tables cs bs ps → w < 0x100000000 → w ≡ get_or image next 0 →
-    n ≡ number_lent cs w → p ≡ get_or ps n no_packed → f ≡ facts_in p → T (not f.input) → (c : Config) → reads_port c image next ≡ false
+pub quiet_row : (c : Config) (image : List ℕ) (next w n : ℕ) (f : Facts) → w < 0x100000000 → w ≡ get_or image next 0 → n ≡ number_lent class_table w →
+    f ≡ facts_of n → T (not f.input) → reads_port c image next ≡ false
 unfolding reading_of
-quiet_row cs bs ps image next w n p f t small ew en ep ef q c = rw (← ew) (go (eqb (read_lawful c w).number 0) refl)
+quiet_row c image next w n f small ew en ef q = rw (← ew) (go (eqb (read_lawful c w).number 0) refl)
   where
-    limits : Limits c entry_table (uppers c) (lowers c)
-    limits = record { entries_right = refl; uppers_right = refl; lowers_right = refl }
-
     row : (read_lawful c w).number ≡ 0 → (read_lawful c w).instruction.row ≡ n
     row z =
-        sym (ap (λ (r : Read). r.instruction.row) (read_parts cs bs ps entry_table (uppers c) (lowers c) c w n t limits small en z _ refl)) ∙
-        row_of_parts bs ps c n w
+        sym (ap (λ (r : Read). r.instruction.row) (read_parts class_table base_table row_table entry_table (uppers c) (lowers c) c w n own_tables (own_limits c) small en z _ refl)) ∙
+        row_of_parts base_table row_table c n w
 
     none : (facts_of n).input ≡ false
-    none = ap (λ (g : Facts). g.input) (sym (ef ∙ facts_in_lem ps p n t.packs_right ep)) ∙ is_false f.input (T_not f.input q)
+    none = ap (λ (g : Facts). g.input) (sym ef) ∙ is_false f.input (T_not f.input q)
 
     go : (b : Bool) → eqb (read_lawful c w).number 0 ≡ b → (eqb (read_lawful c w).number 0 && (facts_of (read_lawful c w).instruction.row).input) ≡ false
     go true e = rw (e, row (eqb-true (read_lawful c w).number 0 e)) none
     go false e = rw e
 
-module _ (cs bs ps es us ls : List ℕ) (c : Config) (image certificate : List ℕ) (a w n p x e limit : ℕ) (f : Facts) (t : Tables cs bs ps)
-    (l : Limits c es us ls) (h : Holds (lawful c)) (small : w < 0x100000000) (ew : w ≡ get_or image a 0) (en : n ≡ number_lent cs w)
-    (quick : below_lent es us ls n w ≡ true) (ep : p ≡ get_or ps n no_packed) (ef : f ≡ facts_in p) where
+module _ (c : Config) (image certificate : List ℕ) (a w n x e limit : ℕ) (f : Facts) (h : test (lawful c) ≡ true) (small : w < 0x100000000)
+    (ew : w ≡ get_or image a 0) (en : n ≡ number_lent class_table w) (quick : below_lent entry_table (uppers c) (lowers c) n w ≡ true) (ef : f ≡ facts_of n) where
   abbrev i : Instruction
-  i = parts_lent bs ps c n w
+  i = parts_lent base_table row_table c n w
 
   read_here : read_lawful c (get_or image a 0) ≡ understood i
   unfolding reading_of
-  read_here = rw (← ew) (sym (quick_lent cs bs ps es us ls c w n t l small en h quick i refl))
+  read_here = rw (← ew) (sym (quick_lent class_table base_table row_table entry_table (uppers c) (lowers c) c w n own_tables (own_limits c) small en (lawful_here c h) quick i refl))
 
   facts_here : facts_of (read_lawful c (get_or image a 0)).instruction.row ≡ f
   facts_here =
-      ap (λ (r : Read). facts_of r.instruction.row) read_here ∙ ap facts_of (row_of_parts bs ps c n w) ∙ sym (ef ∙ facts_in_lem ps p n t.packs_right ep)
+      ap (λ (r : Read). facts_of r.instruction.row) read_here ∙ ap facts_of (row_of_parts base_table row_table c n w) ∙ sym ef
 
   pub settles : length certificate ≡ c.imsize → x ≡ mark_at certificate a → e ≡ mark_after f x → limit ≡ stack_limit c.pcstack → (a ≡ 0 → ⊥) →
-      level_of x ≤ limit → f.barred ≡ false → Allowed f i.source x → (T f.output → (c : Config) → reads_port c image (a + 1) ≡ false) →
+      level_of x ≤ limit → f.barred ≡ false → Allowed f i.source x → (T f.output → reads_port c image (a + 1) ≡ false) →
       (T f.target → Follows f.calls e (mark_at certificate i.value)) → (T f.next → Follows false e (mark_at certificate (a + 1))) →
       (T f.returns → sub_of x ≡ 1) → lowest c image certificate a ≡ 0
   settles sized ex ee el first level barred allowed output target next returns =
       rw (facts_here, read_here)
       (none_fails (rules c (mark_at certificate) a (understood i) f (reads_port c image (a + 1)))
-      (obeys c certificate a i f (reads_port c image (a + 1)) sized first (rw (ex, el) at level) barred (rw ex at allowed) (λ u. output u c)
+      (obeys c certificate a i f (reads_port c image (a + 1)) sized first (rw (ex, el) at level) barred (rw ex at allowed) output
       (rw (ee, ex) at target) (rw (ee, ex) at next) (rw ex at returns)))

@@ -1,25 +1,25 @@
 -- `certificate::searching::check_answer` meets its contract. Assumes nothing.
-use mathlib.Core.Path.{sym, ◌∙◌}
-use borrow.Author.Tests.{not-true, not-false}
-use Rattle.laws.specs.Choice.{true_is}
-use Rattle.laws.specs.Test.{test, holds}
-use lib.ListN.{length}
-use Rattle.words.specs.Configs.{lawful}
-use Rattle.rules.specs.Check.{sized}
+use mathlib.Core.Path.{◌≡◌, ap, ◌∙◌}
+use Rattle.std.specs.Prelude.{is_some}
 use Rattle.certificate.specs.Answers.{answer_of}
-use Rattle.certificate.proofs.searching.Laws.{unlawful, unsized, searched}
+use Rattle.certificate.proofs.searching.Laws.{unlawful, unsized, searched, long_both, short_left, short_right}
+use Rattle.certificate.proofs.searching.check_answer.Goals.{then-image-size-via-then-image-size, then-image-size-via-else-image-size+then-certificate-size}
 use Rattle.certificate.proofs.searching.check_answer.Goals as goal
 
-pub returns-then-not-lawful : goal.returns-then-not-lawful
+pub returns-in_default : goal.returns-in_default
 unfolding answer_of
-returns-then-not-lawful c = unlawful c.args.c c.args.image.now c.args.certificate.now (sym c.lawful.ensures ∙ not-true c.lawful.result c.if-not-lawful.true-raw)
+returns-in_default c = unlawful c.args.c c.args.image.now c.args.certificate.now (c.of.ensures.none.0 (ap is_some c.in_default.is))
 
-pub returns-then-not-image-size : goal.returns-then-not-image-size
+pub returns-then-image-size : goal.returns-then-image-size
 unfolding answer_of
-returns-then-not-image-size c = unsized c.args.c c.args.image.now c.args.certificate.now (sym c.lawful.ensures ∙ not-false c.lawful.result c.if-not-lawful.false-raw) (not-true (test (sized c.args.c (length c.args.image.now) (length c.args.certificate.now))) c.if-not-image-size.true-raw)
-
-pub first_broken-requires : goal.first_broken-requires
-first_broken-requires c = (record { classes_right = c.class_table-classes.ensures.0; bases_right = c.base_table-bases.ensures; packs_right = c.row_table-packs.ensures }, record { entries_right = c.entry_table-entries.ensures; uppers_right = c.upper_limits-uppers.ensures; lowers_right = c.lower_limits-lowers.ensures }, holds (lawful c.args.c) (true_is _ (sym c.lawful.ensures ∙ not-false c.lawful.result c.if-not-lawful.false-raw)), (holds (sized c.args.c (length c.args.image.now) (length c.args.certificate.now)) (true_is _ (not-false (test (sized c.args.c (length c.args.image.now) (length c.args.certificate.now))) c.if-not-image-size.false-raw))).1)
+returns-then-image-size c =
+    let e : c.in-Some.reader.config ≡ c.args.c = c.in-Some.ensures.some in
+    elim c.then-image-size.branch [
+      | then-image-size-via-then-image-size w ↦ unsized c.args.c c.args.image.now c.args.certificate.now (rw e at c.in-Some.reader.is_lawful) (short_left _ _ _ w.if-image-size.true)
+      | then-image-size-via-else-image-size+then-certificate-size w ↦ unsized c.args.c c.args.image.now c.args.certificate.now (rw e at c.in-Some.reader.is_lawful) (short_right _ _ _ w.if-certificate-size.true)
+    ]
 
 pub returns : goal.returns
-returns c = c.first_broken.ensures ∙ searched c.args.c c.args.image.now c.args.certificate.now (sym c.lawful.ensures ∙ not-false c.lawful.result c.if-not-lawful.false-raw) (not-false (test (sized c.args.c (length c.args.image.now) (length c.args.certificate.now))) c.if-not-image-size.false-raw)
+returns c =
+    let e : c.in-Some.reader.config ≡ c.args.c = c.in-Some.ensures.some in
+    (rw e at c.first_broken.ensures) ∙ searched c.args.c c.args.image.now c.args.certificate.now (rw e at c.in-Some.reader.is_lawful) (long_both _ _ _ c.if-image-size.false c.if-certificate-size.false)

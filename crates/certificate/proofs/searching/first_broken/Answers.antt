@@ -1,17 +1,21 @@
 -- `certificate::searching::first_broken` meets its contract. Assumes nothing.
-use mathlib.Core.Path.{sym, ◌∙◌}
+use mathlib.Core.Path.{sym, ap, ◌∙◌}
 use native.Mathlib.Omega.{arith}
-use Rattle.certificate.specs.Answers.{answer_of}
-use Rattle.certificate.proofs.searching.Laws.{goes_on, stops, passes}
+use Rattle.certificate.specs.Answers.{rule_of, answer_of}
+use Rattle.certificate.specs.declared.marks.Mark.{Mark}
+use Rattle.certificate.proofs.searching.Laws.{begins, rule_above, goes_on, stops, passes}
 use Rattle.certificate.proofs.searching.first_broken.Goals as goal
 
-pub returns-then-rule-ne0 : goal.returns-then-rule-ne0
+pub loop-a-init : goal.loop-a-init
+loop-a-init c = begins c.args.sheet.now.reader.now.config c.args.sheet.now.image.now c.args.sheet.now.certificate.now
+
+pub returns-in-Some : goal.returns-in-Some
 unfolding answer_of
-returns-then-rule-ne0 c = stops c.args.c c.args.image.now c.args.certificate.now c.loop-a.a _ (omega arith) c.rule_at-rule.ensures c.if-rule-ne0.true ∙ sym c.loop-a.invariant.3
+returns-in-Some c = stops c.args.sheet.now.reader.now.config c.args.sheet.now.image.now c.args.sheet.now.certificate.now c.loop-a.a _ (omega (arith, c.loop-a-test.true)) (sym (ap rule_of c.in-Some.is) ∙ c.rule_at.ensures) (rule_above c.in-Some.rule) ∙ sym c.loop-a.invariant
 
 pub loop-a-preserved : goal.loop-a-preserved
-loop-a-preserved c = (c.loop-a.invariant.0, c.loop-a.invariant.1, c.loop-a.invariant.2, c.loop-a.invariant.3 ∙ goes_on c.args.c c.args.image.now c.args.certificate.now c.loop-a.a (omega arith) (sym c.rule_at-rule.ensures ∙ c.if-rule-ne0.false))
+loop-a-preserved c = c.loop-a.invariant ∙ goes_on c.args.sheet.now.reader.now.config c.args.sheet.now.image.now c.args.sheet.now.certificate.now c.loop-a.a (omega (arith, c.loop-a-test.true)) (sym c.rule_at.ensures ∙ ap rule_of c.in_default.is)
 
 pub returns : goal.returns
 unfolding answer_of
-returns c = passes c.args.c c.args.image.now c.args.certificate.now c.loop-a.a _ (omega arith) c.mark_at.ensures ∙ sym c.loop-a.invariant.3
+returns c = rw (c.from.ensures, c.level.ensures) (passes c.args.sheet.now.reader.now.config c.args.sheet.now.image.now c.args.sheet.now.certificate.now c.loop-a.a _ (omega (arith, c.loop-a-test.false)) (ap (λ (m : Mark). m.byte) c.mark.ensures) ∙ sym c.loop-a.invariant)
