@@ -14,7 +14,12 @@ use Rattle.syntax.specs.Digits.{hex}
 use Rattle.syntax.specs.Quoted.{quoted}
 use Rattle.text.specs.Texts.{Text, printed, word_text, shown_call}
 use Rattle.text.specs.Lines.{line_of, line_at}
-use Rattle.printing.specs.Entries.{shown_word, entry_of, EntryIsLine}
+use Rattle.std.specs.Prelude.{Ok, Err}
+use Rattle.text.specs.declared.errors.TextError.{TextError}
+use Rattle.text.specs.declared.errors.TextError.TheVariants.{Unread, NoRoom, TooLong}
+use Rattle.text.specs.Answers.{texted_of}
+use Rattle.text.proofs.Refusals.{small_number}
+use Rattle.printing.specs.Entries.{shown_word, IsAfterError, entry_of, EntryIsLine}
 use Rattle.printing.specs.Puts.{Puts}
 use Rattle.printing.proofs.Puts.{nothing, stored, no_room}
 
@@ -35,13 +40,22 @@ has_not p at t true true e a k n r h = absurd (let z : ◌≡◌ {A = ℕ} 0 18 
 has_not p at t true false e a k n r h = rw k (no_room p at r t (length t) false refl e refl (rw k at h))
 
 module _ (c : Config) (w : ℕ) (p : List ℕ) (at : ℕ) (a : Text) (k : a ≡ shown_call c w p at) where
-  pub shown_put : (a.number ≡ 18 → ⊥) → Puts p at (shown_word c w) a.place a.page
+  shown_put : (a.number ≡ 18 → ⊥) → Puts p at (shown_word c w) a.place a.page
   unfolding shown_call shown_word
   shown_put n = has_put p at (word_text c w) (test (lawful c)) (leb (at + length (word_text c w)) (length p)) refl a k n
 
-  pub shown_beyond : a.number ≡ 18 → (r : ℕ) → length a.page < r → Puts p at (shown_word c w) r a.page
+  shown_not : a.number ≡ 18 → (r : ℕ) → length a.page < r → Puts p at (shown_word c w) r a.page
   unfolding shown_call shown_word
-  shown_beyond n r h = has_not p at (word_text c w) (test (lawful c)) (leb (at + length (word_text c w)) (length p)) refl a k n r h
+  shown_not n r h = has_not p at (word_text c w) (test (lawful c)) (leb (at + length (word_text c w)) (length p)) refl a k n r h
+
+module _ (c : Config) (w : ℕ) (p q : List ℕ) (at : ℕ) where
+  pub shown_after : (r : ℕ) → texted_of (Ok r) at q ≡ shown_call c w p at → Puts p at (shown_word c w) r q
+  shown_after r k = shown_put c w p at (texted_of (Ok r) at q) k (λ n. omega (arith, n))
+
+  pub shown_error : (e : TextError) (r : ℕ) → texted_of (Err e) at q ≡ shown_call c w p at → IsAfterError e q at r → Puts p at (shown_word c w) r q
+  shown_error NoRoom r k h = shown_not c w p at (texted_of (Err NoRoom) at q) k refl r h
+  shown_error (Unread x) r k h = rw h (shown_put c w p at (texted_of (Err (Unread x)) at q) k (λ e. omega (arith, e, small_number x)))
+  shown_error TooLong r k h = rw h (shown_put c w p at (texted_of (Err TooLong) at q) k (λ e. omega (arith, e)))
 
 pub entry_is_line : EntryIsLine
 unfolding entry_of shown_word line_at line_of

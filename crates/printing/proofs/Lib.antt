@@ -2,3 +2,4 @@ pub mod Powers
 pub mod Numerals
 pub mod Puts
 pub mod Entries
+pub mod Printers

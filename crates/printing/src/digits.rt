@@ -12,7 +12,7 @@ fn digit_count(n: u64) -> usize
     let mut k = 1;
     let mut rest = n / 10;
     while 0 < rest {
-        rest = rest / 10;
+        rest /= 10;
         k += 1;
     }
     k
@@ -32,12 +32,10 @@ fn write_digits(n: u64, k: usize, out: &mut [u8])
     ensures digits { take k out.new ≡ last_digits 10 k n }
     ensures rest { drop k out.new ≡ drop k out.old }
 {
-    let mut i = k;
     let mut rest = n;
-    while 0 < i {
-        i -= 1;
+    for i in (0..k).rev() {
         out[i] = decimal_digit(rest % 10);
-        rest = rest / 10;
+        rest /= 10;
     }
 }
 

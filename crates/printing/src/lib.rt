@@ -2,52 +2,32 @@
 // every writer from such a place on.
 #![tactic(auto)]
 
-ghost use Rattle.std.specs.Prelude.{◌<◌, ◌≤◌, ◌+◌, ◌≡◌, leb, length, get_or};
-ghost use Rattle.syntax.specs.Digits.{digit, hex};
-ghost use Rattle.text.specs.Pages.{Wrote};
+ghost use Rattle.std.specs.Prelude.{◌<◌, ◌≡◌, length, get_or};
+ghost use Rattle.syntax.specs.Digits.{hex};
 ghost use Rattle.printing.specs.Numerals.{decimal, refusal_line};
-ghost use Rattle.printing.specs.Entries.{shown_word, entry_of, EntryIsLine};
+ghost use Rattle.printing.specs.Entries.{shown_word, IsAfterError, entry_of, EntryIsLine};
 ghost use Rattle.printing.specs.Puts.{Puts};
 
 mod digits;
+mod printer;
 
 use digits::decimal;
+pub use printer::Printer;
+use text::{TextError, has_room};
 use words::Config;
 
 // The bytes of the largest decimal number of 64 bits.
 const DECIMAL_BYTES: usize = 20;
 
-// Document 01's number for a page without room.
-const NO_ROOM: u32 = 18;
-
 const ADDRESS_DIGITS: usize = 6;
 
 const WORD_DIGITS: usize = 8;
-
-// Whether n bytes have room from the place on.
-fn has_room(size: usize, at: usize, n: usize) -> bool
-    ensures { result ≡ leb (at + n) size }
-{
-    if size < at { false } else { n <= size - at }
-}
 
 // A place beyond a page of so many bytes.
 fn beyond(page: &[u8]) -> usize
     ensures { length page.now < result }
 {
     page.len() + 1
-}
-
-fn store_bytes(page: &mut [u8], at: usize, bytes: &[u8]) -> usize
-    requires { at + length bytes.now ≤ length page.old }
-    ensures { Wrote page.old at bytes.now result page.new }
-{
-    let mut i = 0;
-    while i < bytes.len() {
-        page[at + i] = bytes[i];
-        i += 1;
-    }
-    at + i
 }
 
 // Puts the bytes.
@@ -57,30 +37,7 @@ pub fn put_bytes(page: &mut [u8], at: usize, bytes: &[u8]) -> usize
     if !has_room(page.len(), at, bytes.len()) {
         return beyond(page);
     }
-    store_bytes(page, at, bytes)
-}
-
-// The small hex digit of d.
-fn digit_of(d: u8) -> u8
-    requires { d < 16 }
-    ensures { result ≡ digit d }
-{
-    if d < 10 { d + 48 } else { d + 87 }
-}
-
-fn store_hex(page: &mut [u8], at: usize, w: usize, n: u64) -> usize
-    requires { at + w ≤ length page.old }
-    ensures { Wrote page.old at (hex w n) result page.new }
-{
-    let mut i = w;
-    let mut m = n;
-    while 0 < i {
-        i -= 1;
-        let d = (m % 16) as u8;
-        page[at + i] = digit_of(d);
-        m = m / 16;
-    }
-    at + w
+    text::put_bytes(page, at, bytes)
 }
 
 // Puts the low w hex digits of n.
@@ -90,7 +47,7 @@ pub fn put_hex(page: &mut [u8], at: usize, w: usize, n: u64) -> usize
     if !has_room(page.len(), at, w) {
         return beyond(page);
     }
-    store_hex(page, at, w, n)
+    text::put_hex(page, at, w, n)
 }
 
 // Puts n in decimal.
@@ -111,25 +68,31 @@ pub fn put_refusal(page: &mut [u8], at: usize, number: u32) -> usize
     put_bytes(page, j, b"\n")
 }
 
+// The place after an error: beyond the page where it has no room, else the given place.
+fn after_error(why: TextError, page: &[u8], at: usize) -> usize
+    ensures { IsAfterError why page.now at result }
+{
+    match why {
+        TextError::NoRoom => beyond(page),
+        TextError::Unread(_) => at,
+        TextError::TooLong => at,
+    }
+}
+
 // Puts what stands in a listing for word w; nothing where the configuration is unlawful.
 pub fn put_shown(c: Config, w: u32, page: &mut [u8], at: usize) -> usize
     ensures { Puts page.old at (shown_word c w) result page.new }
 {
-    let r = text::shown(c, w, page, at);
-    if r.number == NO_ROOM {
-        return beyond(page);
+    match text::shown(c, w, page, at) {
+        Ok(after) => after,
+        Err(why) => after_error(why, page, at),
     }
-    r.place
 }
 
 fn word_at(image: &[u32], address: usize) -> u32
     ensures { result ≡ get_or image.now address 0 }
 {
-    if address < image.len() {
-        image[address]
-    } else {
-        0
-    }
+    image.get(address).copied().unwrap_or(0)
 }
 
 // Puts a listing's line of an address, but for its newline.

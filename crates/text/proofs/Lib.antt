@@ -3,3 +3,4 @@ pub mod Spelled
 pub mod Tidy
 pub mod Printed
 pub mod Whole
+pub mod Refusals

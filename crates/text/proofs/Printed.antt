@@ -23,12 +23,8 @@ use Rattle.syntax.specs.Styles.{styles, style_at}
 use Rattle.syntax.specs.Forms.{operands_from, number_text, flag_text, pieces_of, part_of, text_of}
 use Rattle.syntax.proofs.Pieces.{print_append}
 use Rattle.text.specs.Printed.{strings, style_table}
-use Rattle.text.specs.Packed.{shown_part, last_mark}
+use Rattle.text.specs.Packed.{string, shown_part, last_mark, style_text}
 use Rattle.text.proofs.Tidy.{alike, alike_print}
-
--- string k, past the table's end none
-unfoldable pub string : ℕ → List ℕ
-string k = quoted (get_or strings k "")
 
 -- a packed style as pieces; `updates` where bit 26 is 0
 
@@ -133,16 +129,8 @@ part_print w (suc (suc (suc zero))) i = append-nil (hex w i.value)
 part_print w (suc (suc (suc (suc zero)))) i = offset_print w i.destination (part_of i) refl
 part_print w (suc (suc (suc (suc (suc k))))) i = append-nil (hex w 0)
 
--- the four pieces of a packed style, as code prints them
-unfoldable pub packed_bytes : ℕ → Instruction → List ℕ
-packed_bytes p i =
-    (string (p % 256) ++ hex (p / 0x100 % 16) i.number) ++ (
-    (string (p / 0x1000 % 256) ++ hex (p / 0x100000 % 16) (shown_part (p / 0x1000000 % 16) i)) ++ (
-    (string (p / 0x10000000 % 256) ++ hex (p / 0x1000000000 % 16) (shown_part (p / 0x10000000000 % 16) i)) ++
-    (string (last_mark (p / 0x10000000000000 % 16) (p / 0x100000000000 % 256) i.flag) ++ hex 0 0)))
-
-packed_print : (p : ℕ) (i : Instruction) → print (packed_pieces p (eqb i.flag 0)) (part_of i) ≡ packed_bytes p i
-unfolding packed_pieces packed_bytes last_mark spelled part_of
+packed_print : (p : ℕ) (i : Instruction) → print (packed_pieces p (eqb i.flag 0)) (part_of i) ≡ style_text p i
+unfolding packed_pieces style_text last_mark spelled part_of
 packed_print p i =
     rw (
       print_append,
@@ -152,7 +140,7 @@ packed_print p i =
     )
     (simp append_assoc)
 
-pub packed_text : (c : Config) (i : Instruction) → packed_bytes (get_or style_table i.row 0) i ≡ text_of c i
+pub packed_text : (c : Config) (i : Instruction) → style_text (get_or style_table i.row 0) i ≡ text_of c i
 unfolding agree
 packed_text c i =
     let p = get_or style_table i.row 0 in

@@ -21,7 +21,7 @@ use Rattle.words.proofs.Answers.{lawful_read}
 use Rattle.syntax.specs.Claims.{text_of_word}
 use Rattle.syntax.specs.Forms.{text_of}
 use Rattle.syntax.proofs.Lengths.{text_short}
-use Rattle.text.specs.declared.Listed.{Listed}
+use Rattle.text.specs.declared.listing.Listed.{Listed}
 use Rattle.text.specs.Pages.{written}
 use Rattle.text.specs.Texts.{text_limit, decimal, refused_text, shown_text, word_text}
 use Rattle.text.specs.Lines.{line_at, lines_from, Listing, listing, listed, list_number, list_of}

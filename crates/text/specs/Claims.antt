@@ -6,7 +6,7 @@ use Rattle.words.specs.declared.Config.{Config}
 use Rattle.words.specs.Configs.{lawful}
 use Rattle.words.specs.Words.{read_of}
 use Rattle.syntax.specs.Claims.{text_of_word}
-use Rattle.text.specs.declared.Listed.{Listed}
+use Rattle.text.specs.declared.listing.Listed.{Listed}
 use Rattle.text.specs.Pages.{written}
 use Rattle.text.specs.Texts.{text_limit, word_text}
 use Rattle.text.specs.Lines.{lines_from, Listing, listing, list_of}

@@ -1,32 +1,31 @@
--- Pieces: their lengths, and what the lent tables make of an instruction is its text.
+-- Pieces: their lengths, and that a row's packed style names strings that there are.
 -- Assumes nothing.
-use Prim.Native.Nat.{ℕ, zero, suc, ◌+◌, ◌*◌, ◌/◌, ◌%◌, ◌<◌}
-use Prim.Native.String.{String}
+use Prim.Native.Nat.{ℕ, zero, suc, ◌+◌, ◌/◌, ◌%◌, ◌<◌, ◌≤◌}
 use mathlib.Core.Path.{◌≡◌, refl, sym, ap, ◌∙◌}
-use mathlib.Core.Bool.{Bool, true, false, not, ◌&&◌}
-use mathlib.Core.List.{List, [], ◌∷◌, ◌++◌}
+use mathlib.Core.Bool.{Bool, not, ◌&&◌}
+use mathlib.Core.List.{List, [], ◌∷◌}
 use native.Mathlib.Omega.{arith}
-use borrow.Author.Tests.{ne_eqb}
-use lib.Dec.{T, eqb}
+use borrow.Author.Tests.{leb-true}
+use lib.Dec.{T, eqb, leb}
 use lib.ListN.{length, get_or, length-append}
-use Rattle.laws.specs.Choice.{pick, either}
-use Rattle.laws.specs.Test.{Test, less, ◌and◌, test, Holds, holds, and_left, and_right}
-use Rattle.laws.specs.Lists.{column, column_at, all}
-use Rattle.words.specs.declared.Config.{Config}
+use Rattle.std.proofs.Common.{Bor}
+use Rattle.laws.specs.Choice.{either, is_true}
+use Rattle.laws.specs.Table.{every, at_every}
+use Rattle.laws.specs.Test.{Test, less, ◌and◌, test, holds, and_left, and_right}
+use Rattle.laws.specs.Lists.{all, column, column_at, get_d_inside}
 use Rattle.words.specs.declared.Instruction.{Instruction}
-use Rattle.syntax.specs.Digits.{spelled, hex, unpacked}
-use Rattle.syntax.specs.Quoted.{quoted}
-use Rattle.syntax.specs.Forms.{text_of}
+use Rattle.syntax.specs.Pieces.{equal}
+use Rattle.syntax.proofs.Pieces.{equal_is}
 use Rattle.text.specs.Printed.{strings, style_table}
-use Rattle.text.specs.Packed.{packed_from, string_table, size_table, Lent, Named, piece_text, form_text, piece_lent, shown_part, last_mark, form_in, form_lent}
-use Rattle.text.specs.declared.forms.Piece.{Piece}
-use Rattle.text.specs.declared.forms.Form.{Form}
+use Rattle.text.specs.Packed.{string, Named, piece_text, form_text, shown_part, last_mark}
+use Rattle.text.specs.declared.columns.TheConstants.{STRINGS, STYLES}
+use Rattle.text.specs.declared.pieces.Piece.{Piece}
+use Rattle.text.specs.declared.pieces.Form.{Form}
 use Rattle.text.proofs.Spelled.{length_spelled}
-use Rattle.text.proofs.Printed.{string, packed_bytes, packed_text}
 
 -- lengths
 
-pub length_piece : (p : Piece) → length (piece_text p) ≡ p.size + p.width
+pub length_piece : (p : Piece) → length (piece_text p) ≡ length p.bytes.now + p.width
 unfolding piece_text
 length_piece p = simp (length-append, length_spelled)
 
@@ -35,40 +34,36 @@ pub length_form : (f : Form) →
 unfolding form_text
 length_form f = simp length-append
 
--- what the code picks is what an operand shows
-shows : (k d s v : ℕ) → pick (eqb k 3) v (pick (eqb k 4) (16 * d) (pick (eqb k 1) d (pick (eqb k 2) s 0))) ≡ get_or (0 ∷ d ∷ s ∷ v ∷ 16 * d ∷ []) k 0
-unfolding pick
-shows zero d s v = refl
-shows (suc zero) d s v = refl
-shows (suc (suc zero)) d s v = refl
-shows (suc (suc (suc zero))) d s v = refl
-shows (suc (suc (suc (suc zero)))) d s v = refl
-shows (suc (suc (suc (suc (suc k))))) d s v =
-    let n = suc (suc (suc (suc (suc k)))) in
-    rw (ne_eqb n 3 (λ e. omega arith), ne_eqb n 4 (λ e. omega arith), ne_eqb n 1 (λ e. omega arith), ne_eqb n 2 (λ e. omega arith))
+-- the tables that code holds
 
-pub shown_is : (k : ℕ) (i : Instruction) (a b r x : ℕ) → a ≡ pick (eqb k 2) i.source 0 → r ≡ pick (eqb k 1) i.destination a →
-    b ≡ pick (eqb k 4) (16 * i.destination) r → x ≡ pick (eqb k 3) i.value b → x ≡ shown_part k i
-unfolding shown_part
-shown_is k i a b r x p q s t = rw (t, s, q, p) (shows k i.destination i.source i.value)
+pub styles_right : STYLES ≡ style_table
+unfolding style_table
+styles_right = refl
 
--- a string by the lent tables: its bytes, packed and taken apart again
-spelled_back : String → List ℕ
-spelled_back s = unpacked (length (quoted s)) (packed_from 0 (quoted s))
+abbrev bytes_of : Bor (List ℕ) → List ℕ
+bytes_of r = r.now
 
-each_back : column spelled_back strings ≡ column quoted strings
-unfolding spelled_back strings spelled
-each_back = refl
+abbrev pub byte_lists : List (List ℕ)
+byte_lists = column (λ r. r.now) STRINGS
 
-string_lent : (k : ℕ) → unpacked (get_or size_table k 0) (get_or string_table k 0) ≡ string k
-unfolding size_table string_table string spelled_back spelled
-string_lent k =
-    rw (column_at (λ s. length (quoted s)) strings k "", column_at (λ s. packed_from 0 (quoted s)) strings k "")
-    (sym (column_at spelled_back strings k "") ∙ ap (λ (l : List (List ℕ)). get_or l k []) each_back ∙ column_at quoted strings k "")
+string_right : ℕ → Bool
+string_right k = equal (get_or byte_lists k []) (string k) && leb (length (get_or byte_lists k [])) 8
 
-pub piece_lent_lem : (k w v : ℕ) → piece_text (piece_lent string_table size_table k w v) ≡ string k ++ hex w v
-unfolding piece_text piece_lent
-piece_lent_lem k w v = rw (string_lent k)
+strings_right : T (every 69 string_right)
+unfolding string_right string strings
+strings_right = tt
+
+module _ (k : ℕ) (h : k < 69) (l : List (Bor (List ℕ))) (d : Bor (List ℕ)) (e : column bytes_of l ≡ byte_lists) where
+  string_there : (get_or l k d).now ≡ get_or byte_lists k []
+  string_there = sym (column_at bytes_of l k d) ∙ ap (λ (x : List (List ℕ)). get_or x k d.now) e ∙ get_d_inside byte_lists k d.now [] h
+
+  pub string_is : (get_or l k d).now ≡ string k
+  unfolding string_right
+  string_is = string_there ∙ equal_is (get_or byte_lists k []) (string k) (and_left _ _ (at_every 69 string_right k strings_right h))
+
+  pub string_short : length (get_or l k d).now ≤ 8
+  unfolding string_right
+  string_short = rw string_there (leb-true (length (get_or byte_lists k [])) 8 (is_true _ (and_right _ _ (at_every 69 string_right k strings_right h))))
 
 -- a packed style names strings that there are
 
@@ -85,65 +80,25 @@ anywhere f [] n t z = z
 anywhere f (x ∷ l) zero t z = and_left (f x) (all f l) t
 anywhere f (x ∷ l) (suc n) t z = anywhere f l n (and_right (f x) (all f l) t) z
 
-named : (n : ℕ) → Holds (names_below 69 (get_or style_table n 0))
-named n = holds (names_below 69 (get_or style_table n 0)) (anywhere (λ p. test (names_below 69 p)) style_table n all_named tt)
+pub style_named : (n p : ℕ) → p ≡ get_or style_table n 0 → Named 69 p
+style_named n p e =
+    let h = rw (← e) at (holds (names_below 69 (get_or style_table n 0)) (anywhere (λ p. test (names_below 69 p)) style_table n all_named tt)) in
+    record { name_below = h.0; first_below = h.1.0; second_below = h.1.1.0; last_below = h.1.1.1 }
 
-strings_length : length string_table ≡ 69
-unfolding string_table strings
-strings_length = refl
-
-sizes_length : length size_table ≡ 69
-unfolding size_table strings
-sizes_length = refl
-
-named_below : (k n p : ℕ) → k ≡ 69 → p ≡ get_or style_table n 0 → Named k p
-named_below k n p e q =
-    let h = rw (← q) at (named n) in
-    rw e (record { name_below = h.0; first_below = h.1.0; second_below = h.1.1.0; last_below = h.1.1.1 })
-
-pub style_named : (ss zs ts : List ℕ) (n p : ℕ) → Lent ss zs ts → p ≡ get_or ts n 0 → Named (length ss) p × Named (length zs) p
-style_named ss zs ts n p l q =
-    let e : p ≡ get_or style_table n 0 = q ∙ ap (λ (t : List ℕ). get_or t n 0) l.styles_right in (
-      named_below (length ss) n p (ap length l.strings_right ∙ strings_length) e,
-      named_below (length zs) n p (ap length l.sizes_right ∙ sizes_length) e,
-    )
-
-pub last_named : (k p flagged bit m : ℕ) → Named k p → m ≡ last_mark flagged (p / 0x100000000000 % 256) bit → m < k
+pub last_named : (p flagged bit m : ℕ) → Named 69 p → m ≡ last_mark flagged (p / 0x100000000000 % 256) bit → m < 69
 unfolding last_mark
-last_named k p flagged bit m h e =
+last_named p flagged bit m h e =
     rw e
-    (either (λ x. x < k) (eqb flagged 1 && not (eqb bit 0)) 0 (p / 0x100000000000 % 256)
-    (λ _. let z = h.name_below in omega (arith, z))
+    (either (λ x. x < 69) (eqb flagged 1 && not (eqb bit 0)) 0 (p / 0x100000000000 % 256)
+    (λ _. omega arith)
     (λ _. h.last_below))
 
--- what stands last, as the code picks it
-pub last_none : (flagged mark bit : ℕ) → eqb flagged 1 && not (eqb bit 0) ≡ true → 0 ≡ last_mark flagged mark bit
-unfolding last_mark pick
-last_none flagged mark bit e = rw e
-
-pub last_there : (flagged mark bit : ℕ) → eqb flagged 1 && not (eqb bit 0) ≡ false → mark ≡ last_mark flagged mark bit
-unfolding last_mark pick
-last_there flagged mark bit e = rw e
-
--- with the tables, the pieces of an instruction are its text
-
-form_bytes : (p : ℕ) (i : Instruction) → form_text (form_in string_table size_table p i) ≡ packed_bytes p i
-unfolding form_text form_in packed_bytes
-form_bytes p i = simp piece_lent_lem
-
-pub form_lent_lem : (c : Config) (i : Instruction) → form_text (form_lent string_table size_table style_table i) ≡ text_of c i
-unfolding form_lent
-form_lent_lem c i = form_bytes (get_or style_table i.row 0) i ∙ packed_text c i
-
-pub form_right : (strings sizes styles : List ℕ) (c : Config) (i : Instruction) (f : Form) → Lent strings sizes styles →
-    f ≡ form_lent strings sizes styles i → form_text f ≡ text_of c i
-form_right strings sizes styles c i f t e = rw (e, t.strings_right, t.sizes_right, t.styles_right) (form_lent_lem c i)
-
--- the four pieces, one by one
-pub formed : (strings sizes : List ℕ) (p : ℕ) (i : Instruction) (x y mark : ℕ) (a b c d : Piece) → x ≡ shown_part (p / 0x1000000 % 16) i →
-    y ≡ shown_part (p / 0x10000000000 % 16) i → mark ≡ last_mark (p / 0x10000000000000 % 16) (p / 0x100000000000 % 256) i.flag →
-    a ≡ piece_lent strings sizes (p % 256) (p / 0x100 % 16) i.number → b ≡ piece_lent strings sizes (p / 0x1000 % 256) (p / 0x100000 % 16) x →
-    c ≡ piece_lent strings sizes (p / 0x10000000 % 256) (p / 0x1000000000 % 16) y → d ≡ piece_lent strings sizes mark 0 0 →
-    ◌≡◌ {A = Form} (record { name = a; first = b; second = c; last = d }) (form_in strings sizes p i)
-unfolding form_in
-formed strings sizes p i x y mark a b c d s t m e f g h = rw (e, f, g, h, s, t, m)
+-- past the parts an operand shows nothing
+pub shown_none : (k : ℕ) (i : Instruction) → (k ≡ 1 → ⊥) → (k ≡ 2 → ⊥) → (k ≡ 3 → ⊥) → (k ≡ 4 → ⊥) → 0 ≡ shown_part k i
+unfolding shown_part
+shown_none zero i a b c d = refl
+shown_none (suc zero) i a b c d = absurd (a refl)
+shown_none (suc (suc zero)) i a b c d = absurd (b refl)
+shown_none (suc (suc (suc zero))) i a b c d = absurd (c refl)
+shown_none (suc (suc (suc (suc zero)))) i a b c d = absurd (d refl)
+shown_none (suc (suc (suc (suc (suc k))))) i a b c d = refl

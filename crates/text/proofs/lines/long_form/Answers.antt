@@ -1,6 +1,10 @@
 -- `text::lines::long_form` meets its contract. Assumes nothing.
-use Rattle.text.proofs.texts.Laws.{question_23}
+use Rattle.laws.specs.Choice.{pick}
+use Rattle.syntax.specs.Digits.{spelled}
+use Rattle.text.specs.Packed.{piece_text}
+use Rattle.text.specs.Texts.{decimal, refused_text}
 use Rattle.text.proofs.lines.long_form.Goals as goal
 
 pub returns : goal.returns
-returns c = question_23 _ c.single.ensures
+unfolding piece_text spelled refused_text decimal pick
+returns c = c.alone.ensures

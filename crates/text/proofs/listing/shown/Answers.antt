@@ -1,13 +1,18 @@
 -- `text::listing::shown` meets its contract. Assumes nothing.
+use mathlib.Core.Path.{refl, sym, ◌∙◌}
 use Rattle.text.specs.Packed.{form_text}
-use Rattle.text.proofs.listing.Showing.{unlawful_shown, is_lawful, lawful_shown}
+use Rattle.text.proofs.texts.Laws.{unlawful_shown, no_room_shown, room_shown}
 use Rattle.text.proofs.listing.shown.Goals as goal
 
-pub returns-then-not-lawful : goal.returns-then-not-lawful
-returns-then-not-lawful c = unlawful_shown c.args.c c.args.w _ _ _ c.lawful.ensures c.if-not-lawful.true-raw
+pub returns-in_default : goal.returns-in_default
+returns-in_default c = unlawful_shown c.args.c c.args.w _ _ (c.in_default.ensures.none.0 refl)
 
-pub word_form-f-requires : goal.word_form-f-requires
-word_form-f-requires c = (record { classes_right = c.class_table-classes.ensures.0; bases_right = c.base_table-bases.ensures; packs_right = c.row_table-packs.ensures }, record { entries_right = c.entry_table-entries.ensures; uppers_right = c.upper_limits-uppers.ensures; lowers_right = c.lower_limits-lowers.ensures }, is_lawful c.args.c c.args.w c.args.page.now c.args.place _ c.lawful.ensures c.if-not-lawful.false-raw, record { strings_right = c.string_table-strings.ensures; sizes_right = c.size_table-sizes.ensures; styles_right = c.style_table-styles.ensures })
+pub returns-then-not-has_room : goal.returns-then-not-has_room
+returns-then-not-has_room c =
+    no_room_shown c.args.c c.args.w _ _ (form_text c.word_form-f.result) _ (rw c.in-Some.ensures.some at c.in-Some.reader.is_lawful)
+    (rw c.in-Some.ensures.some at c.word_form-f.ensures) c.len.ensures.0 (sym c.has_room.ensures ∙ c.if-not-has_room.true)
 
 pub returns : goal.returns
-returns c = lawful_shown c.args.c c.args.w _ _ _ c.lawful.ensures c.if-not-lawful.false-raw (form_text c.word_form-f.result) _ c.word_form-f.ensures c.put_shown.ensures
+returns c =
+    room_shown c.args.c c.args.w _ _ (form_text c.word_form-f.result) _ (rw c.in-Some.ensures.some at c.in-Some.reader.is_lawful)
+    (rw c.in-Some.ensures.some at c.word_form-f.ensures) c.len.ensures.0 (sym c.has_room.ensures ∙ c.if-not-has_room.false) c.put.ensures

@@ -1,14 +1,19 @@
 -- `text::texts::print_text` meets its contract. Assumes nothing.
-use native.Mathlib.Omega.{arith}
+use mathlib.Core.Path.{sym, ◌∙◌}
 use Rattle.text.specs.Packed.{form_text}
-use Rattle.text.proofs.texts.Laws.{fits, not_printed, is_printed}
+use Rattle.text.proofs.texts.Laws.{text_no_room, text_long, text_printed}
 use Rattle.text.proofs.texts.print_text.Goals as goal
 
-pub returns-then-n-ne0 : goal.returns-then-n-ne0
-returns-then-n-ne0 c = not_printed _ _ (form_text c.text_form-f.result) _ _ _ c.text_form-f.ensures c.form_len.ensures.0 c.text_number-n.ensures c.if-n-ne0.true
+pub returns-then-not-has_room : goal.returns-then-not-has_room
+returns-then-not-has_room c = λ k.
+    text_no_room _ _ (form_text c.form_of-f.result) _ _ (c.form_of-f.ensures k) c.len-n.ensures.0 (sym c.has_room.ensures ∙ c.if-not-has_room.true)
 
-pub put_form-requires : goal.put_form-requires
-put_form-requires c = let h = fits _ c.args.place _ _ c.text_number-n.ensures (omega arith) in omega arith
+pub returns-then-too_long : goal.returns-then-too_long
+returns-then-too_long c = λ k.
+    text_long _ _ (form_text c.form_of-f.result) _ _ (c.form_of-f.ensures k) c.len-n.ensures.0 (sym c.has_room.ensures ∙ c.if-not-has_room.false)
+    (sym c.too_long.ensures ∙ c.if-too_long.true)
 
 pub returns : goal.returns
-returns c = is_printed _ _ (form_text c.text_form-f.result) _ _ _ c.text_form-f.ensures c.form_len.ensures.0 c.text_number-n.ensures (omega arith) c.put_form.ensures
+returns c = λ k.
+    text_printed _ _ (form_text c.form_of-f.result) _ _ (c.form_of-f.ensures k) c.len-n.ensures.0 (sym c.has_room.ensures ∙ c.if-not-has_room.false)
+    (sym c.too_long.ensures ∙ c.if-too_long.false) c.put.ensures

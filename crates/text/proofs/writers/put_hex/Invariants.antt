@@ -1,13 +1,9 @@
--- `text::writers::put_hex` meets its contract. Assumes nothing.
-use Prim.Native.Nat.{◌≤◌}
-use mathlib.Core.Path.{◌≡◌}
-use lib.ListN.{length}
+-- Of the digits, an odd one and two for each turn to come are left, and fall where they are to fall.
+use Rattle.std.proofs.Common.{◌≡◌, ◌+◌, ◌*◌, length}
 use lib.Seq.{sets}
-use Rattle.syntax.specs.Digits.{spelled, digit}
+use Rattle.syntax.specs.Digits.{hex}
 use Rattle.text.proofs.writers.put_hex.Given as goal
 
 abbrev pub invariant-loop-i : goal.invariant-loop-i
-invariant-loop-i l = (l.i ≤ l.w) × (length l.page ≡ length l.initial.page) × (sets l.page l.at (spelled digit 16 l.i l.m) ≡ sets l.initial.page l.at (spelled digit 16 l.w l.n))
-
-abbrev pub decreases-loop-i : goal.decreases-loop-i
-decreases-loop-i l = l.i
+invariant-loop-i l =
+    (length l.page ≡ length l.fn.page) × (sets l.page l.at (hex (l.odd + 2 * l.i) l.rest) ≡ sets l.fn.page l.at (hex l.w l.n))
