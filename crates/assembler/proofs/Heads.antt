@@ -1,6 +1,6 @@
 -- A line's key leads to its form: what the search by heads and links answers is what reading the line gives.
 -- Assumes nothing.
-use Prim.Native.Nat.{ℕ, zero, suc, ◌+◌, ◌-◌, ◌*◌, ◌<◌, ◌≤◌}
+use Prim.Native.Nat.{ℕ, zero, suc, ◌+◌, ◌-◌, ◌<◌, ◌≤◌}
 use mathlib.Core.Bool.{Bool, true, false, not, ◌&&◌, ◌||◌}
 use mathlib.Core.Path.{◌≡◌, refl, ap, sym, subst, ◌∙◌}
 use mathlib.Core.Logic.{◌⊎◌, inl, inr}
@@ -13,22 +13,21 @@ use lib.Seq.{slice}
 use Rattle.laws.specs.Choice.{pick, pick_yes, true_is}
 use Rattle.laws.specs.Test.{and_right, or_cases}
 use Rattle.laws.specs.Table.{every, at_every}
-use Rattle.words.specs.declared.Instruction.{Instruction}
 use Rattle.words.specs.Rows.{rows, row_at}
 use Rattle.syntax.specs.Digits.{spelled, digit}
 use Rattle.syntax.specs.Pieces.{Class, byte, is_hex}
 use Rattle.syntax.specs.Pieces.Class.{digit as any}
 use Rattle.syntax.specs.Styles.{styles, style_at}
 use Rattle.syntax.specs.Forms.{number_text, flag_text, pieces_of, numbers_of, flags_of, forms_of, forms}
-use Rattle.syntax.specs.Reading.{read_line, found, unread}
+use Rattle.syntax.specs.Reading.{is_form, read_line, found, unread}
 use Rattle.syntax.proofs.Pieces.{Fitting}
 use Rattle.syntax.proofs.Table.{pattern_of}
 use Rattle.syntax.proofs.Reading.{form_at, claims, none_claims}
 use Rattle.syntax.proofs.Places.{form_fits}
 use Rattle.assembler.specs.Bytes.{byte_before}
 use Rattle.assembler.specs.Heads.{mark_of, key_of, head_table, link_table}
-use Rattle.assembler.specs.Packed.{codes, Padded, is_form_in, Shown, read_in, Lent, Finds}
-use Rattle.assembler.proofs.Packed.{Line-at, line_at, line_part, early, sound_at, fits_length, table_length, parts_shown, padded, read_in_lem, in-form, form_in}
+use Rattle.assembler.specs.Packed.{form_table, codes, is_form_in, Ready}
+use Rattle.assembler.proofs.Packed.{Line-at, line_at, line_part, length_of, early, sound_at, fits_length, parts_shown, read_in_lem, in-form, form_in}
 
 -- the key of a line is that of its form's pattern
 
@@ -98,46 +97,43 @@ key_small l = omega arith
 
 -- what is left to look at: where a form claims the line, it is reached from q
 
-pub record Left (forms links t : List ℕ) (at n q : ℕ) : Type 0 where
+pub record Left (t : List ℕ) (at n q : ℕ) : Type 0 where
   pub below : q ≤ 186
   pub links_left : ℕ
-  pub reached : (p : ℕ) → p < 186 → T (is_form_in forms p t at n) → T (reaches links links_left q p)
+  pub reached : (p : ℕ) → p < 186 → T (is_form_in form_table p t at n) → T (reaches link_table links_left q p)
 
 pub read_long : (l : List ℕ) → 16 < length l → read_line l ≡ unread
 read_long l g =
     none_claims l (λ q h t. let e = fits_length (pattern_of (form_at q)) l (form_fits (form_at q) l t) in let s = (sound_at q h).is_short in omega arith)
 
-module _ (forms links heads t : List ℕ) (at n : ℕ) (given : Lent forms links heads × (at + n ≤ length t)) where
+module _ (t : List ℕ) (at n : ℕ) (given : at + n ≤ length t) where
   abbrev l : List ℕ
   l = slice at (at + n) t
 
-  lent : Lent forms links heads
-  lent = given.0
-
   i : Line-at l t at n
-  i = line_at t at n given.1
+  i = line_at t at n given
 
   pub too_long : 16 < n → unread ≡ read_line l
   too_long h = sym (read_long l (omega (arith, i.long)))
 
-  pub left_first : (h q : ℕ) → h ≡ key_of (take (at + n - at) (drop at t)) → q ≡ get_or heads h 0 → Left forms links t at n q
+  pub left_first : (h q : ℕ) → h ≡ key_of (take (at + n - at) (drop at t)) → q ≡ get_or head_table h 0 → Left t at n q
   left_first h q d u =
-      let e : h ≡ key_of l = d ∙ ap key_of (line_part t at n given.1) in
-      let v : q ≡ get_or head_table (key_of l) 0 = u ∙ rw (lent.heads_right, e) in
+      let e : h ≡ key_of l = d ∙ ap key_of (line_part t at n given) in
+      let v : q ≡ get_or head_table (key_of l) 0 = u ∙ rw e in
       record {
         below = rw v (leb→le (get_or head_table (key_of l) 0) 186 (at_every 512 (λ h. leb (get_or head_table h 0) 186) (key_of l) all_inside (key_small l)));
         links_left = 8;
         reached = λ p b c.
-            let d = (in-form p l t at n b i (rw lent.forms_right at c)).0 in
+            let d = (in-form p l t at n b i c).0 in
             let k = same_key (pattern_of (form_at p)) l (sound_at p b).is_early (form_fits (form_at p) l d) in
-            rw (v, lent.links_right, k) (at_every 186 (λ p. reaches link_table 8 (get_or head_table (key_of (codes (pattern_of (form_at p)))) 0) p) p all_reached b);
+            rw (v, k) (at_every 186 (λ p. reaches link_table 8 (get_or head_table (key_of (codes (pattern_of (form_at p)))) 0) p) p all_reached b);
       }
 
-  pub left_next : (q r : ℕ) (b : Bool) → Left forms links t at n q → 0 < q → b ≡ is_form_in forms (q - 1) t at n → b ≡ false → r ≡ get_or links (q - 1) 0 →
-      Left forms links t at n r × (r < q)
+  pub left_next : (q r : ℕ) (b : Bool) → Left t at n q → 0 < q → b ≡ is_form_in form_table (q - 1) t at n → b ≡ false → r ≡ get_or link_table (q - 1) 0 →
+      Left t at n r × (r < q)
   left_next q r b s h e f u =
       let fall = leb→le (get_or link_table (q - 1) 0) (q - 1) (at_every 186 (λ j. leb (get_or link_table j 0) j) (q - 1) all_fall (let k = s.below in omega arith)) in
-      let v : r ≡ get_or link_table (q - 1) 0 = u ∙ rw lent.links_right in
+      let v : r ≡ get_or link_table (q - 1) 0 = u in
       let k = s.below in (
         record {
           below = omega (arith, v, fall);
@@ -147,70 +143,37 @@ module _ (forms links heads t : List ℕ) (at n : ℕ) (given : Lent forms links
         omega (arith, v, fall),
       )
     where
-      other : (p m : ℕ) → T (is_form_in forms p t at n) → T (eqb (q - 1) p) ⊎ T (reaches links m (get_or links (q - 1) 0) p) → T (reaches links m r p)
+      other : (p m : ℕ) → T (is_form_in form_table p t at n) → T (eqb (q - 1) p) ⊎ T (reaches link_table m (get_or link_table (q - 1) 0) p) → T (reaches link_table m r p)
       other p m d (inl y) = absurd (rw (← e, f) at (rw (← eqb→eq (q - 1) p y) at d))
       other p m d (inr y) = rw u y
 
-      further : (m p : ℕ) → T (is_form_in forms p t at n) → T (reaches links m q p) → T (reaches links (m - 1) r p)
+      further : (m p : ℕ) → T (is_form_in form_table p t at n) → T (reaches link_table m q p) → T (reaches link_table (m - 1) r p)
       further zero p d x = absurd x
       further (suc m) p d x =
-          rw pred (other p m d (or_cases (eqb (q - 1) p) (reaches links m (get_or links (q - 1) 0) p)
-          (and_right (not (eqb q 0)) (eqb (q - 1) p || reaches links m (get_or links (q - 1) 0) p) x)))
+          rw pred (other p m d (or_cases (eqb (q - 1) p) (reaches link_table m (get_or link_table (q - 1) 0) p)
+          (and_right (not (eqb q 0)) (eqb (q - 1) p || reaches link_table m (get_or link_table (q - 1) 0) p) x)))
         where
           pred : suc m - 1 ≡ m
           pred = omega arith
 
-  none_from_0 : (m p : ℕ) → T (reaches links m 0 p) → ⊥
+  none_from_0 : (m p : ℕ) → T (reaches link_table m 0 p) → ⊥
   none_from_0 zero p x = x
   none_from_0 (suc m) p x = x
 
   -- where nothing is left, the line is in no form
-  pub none_left : (q : ℕ) → Left forms links t at n q → q ≡ 0 → unread ≡ read_line l
-  none_left q s z =
-      sym (none_claims l
-      (λ p b c. none_from_0 s.links_left p (rw z at (s.reached p b (rw lent.forms_right (form_in p l t at n b i c))))))
+  pub none_left : (q : ℕ) → Left t at n q → q ≡ 0 → unread ≡ read_line l
+  none_left q s z = sym (none_claims l (λ p b c. none_from_0 s.links_left p (rw z at (s.reached p b (form_in p l t at n b i c)))))
 
-  -- a form that claims it reads it
-  pub one_found : (q : ℕ) (b : Bool) (r : Instruction) → Left forms links t at n q → 0 < q → b ≡ is_form_in forms (q - 1) t at n → b ≡ true →
-      r ≡ read_in forms (q - 1) (drop at t) → found r ≡ read_line l
-  one_found q b r s h e f g =
-      let k = s.below in
-      let u : q - 1 < 186 = omega arith in
-      let c = in-form (q - 1) l t at n u i (rw lent.forms_right at (true_is (is_form_in forms (q - 1) t at n) (sym e ∙ f))) in
-      let v = read_in_lem (q - 1) l t at u (subst (λ (m : ℕ). Line-at l t at m) c.1 i) in
-      ap found (g ∙ rw lent.forms_right v) ∙ sym (claims (q - 1) l u c.0)
+  module _ (q : ℕ) (b : Bool) (s : Left t at n q) (h : 0 < q) (e : b ≡ is_form_in form_table (q - 1) t at n) (f : b ≡ true) where
+    u : q - 1 < 186
+    u = omega (arith, s.below)
 
-  -- what the code asks for where it looks at form q - 1, and where that form reads the line
+    claimed : T (is_form (form_at (q - 1)) l) × (n ≡ length_of (q - 1))
+    claimed = in-form (q - 1) l t at n u i (true_is (is_form_in form_table (q - 1) t at n) (sym e ∙ f))
 
-  pub form_ready : (q : ℕ) → Left forms links t at n q → 0 < q → n ≤ 16 →
-      (q - 1 < 186) × (n ≤ 16) × (length forms ≡ 5952) × (at + n ≤ length t) × (get_or forms (32 * (q - 1) + 16) 0 ≡ n → Padded forms (32 * (q - 1)) n)
-  form_ready q s h k =
-      let b = s.below in
-      let u : q - 1 < 186 = omega arith in
-      (u, k, rw lent.forms_right table_length, given.1, λ e. rw lent.forms_right (padded (q - 1) n u (rw lent.forms_right at e)))
-
-  pub read_ready : (q : ℕ) (b : Bool) → Left forms links t at n q → 0 < q → b ≡ is_form_in forms (q - 1) t at n → b ≡ true →
-      (q - 1 < 186) × (length forms ≡ 5952) ×
-      Shown forms (32 * (q - 1) + 20) at (length t) × Shown forms (32 * (q - 1) + 22) at (length t) × Shown forms (32 * (q - 1) + 24) at (length t)
-  read_ready q b s h e f =
-      let k = s.below in
-      let u : q - 1 < 186 = omega arith in
-      let c = (in-form (q - 1) l t at n u i (rw lent.forms_right at (true_is (is_form_in forms (q - 1) t at n) (sym e ∙ f)))).1 in
-      let w = rw (← lent.forms_right) at (parts_shown (q - 1) at (length t) u (rw c at given.1)) in
-      (u, rw lent.forms_right table_length, w.0, w.1, w.2)
-
-  -- what is found
-
-  pub finds_none : 16 < n → Finds forms t at n 0
-  finds_none h = record { none = λ _. sym (too_long h); some = λ z. absurd (z refl) }
-
-  pub finds_left : (q r : ℕ) → Left forms links t at n q → q ≡ 0 → r ≡ 0 → Finds forms t at n r
-  finds_left q r s z y = record { none = λ _. sym (none_left q s z); some = λ x. absurd (x y) }
-
-  pub finds_one : (q : ℕ) (b : Bool) → Left forms links t at n q → 0 < q → b ≡ is_form_in forms (q - 1) t at n → b ≡ true → Finds forms t at n q
-  finds_one q b s h e f =
-      let w = read_ready q b s h e f in
-      record {
-        none = λ z. absurd (omega (arith, z));
-        some = λ _. record { below = w.0; long = w.1; upper = w.2; lower = w.3; rest = w.4; reads = one_found q b (read_in forms (q - 1) (drop at t)) s h e f refl };
-      }
+    -- it reads the line, and its parts stand in the text
+    pub form_found : Ready t at n (q - 1)
+    form_found =
+        let v = read_in_lem (q - 1) l t at u (subst (λ (m : ℕ). Line-at l t at m) claimed.1 i) in
+        let w = parts_shown (q - 1) at (length t) u (rw claimed.1 at given) in
+        record { below = u; upper = w.0; lower = w.1; rest = w.2; reads = ap found v ∙ sym (claims (q - 1) l u claimed.0) }

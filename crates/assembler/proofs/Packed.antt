@@ -57,14 +57,6 @@ table_from (x ∷ fs) (suc q) k h i =
     let e : 32 * suc q + k ≡ length (entry_of x) + (32 * q + k) = omega (arith, length_entry x) in
     rw (e, get_or-append-add) (table_from fs q k (le_of_suc-le-suc h) i)
 
-joined_length : (fs : List Form) → length (joined (column entry_of fs)) ≡ 32 * length fs
-joined_length [] = refl
-joined_length (x ∷ fs) = rw length-append (omega (arith, length_entry x, joined_length fs))
-
-pub table_length : length form_table ≡ 5952
-unfolding form_table
-table_length = joined_length forms ∙ rw forms_many
-
 table_at : (q k : ℕ) → q < 186 → k < 32 → get_or form_table (32 * q + k) 0 ≡ get_or (entry_of (form_at q)) k 0
 unfolding form_table
 table_at q k h i = table_from forms q k (rw forms_many h) i

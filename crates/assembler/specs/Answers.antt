@@ -1,9 +1,10 @@
 -- What a call of `assemble` answers and leaves.
-use Rattle.std.specs.Prelude.{ℕ, List, length}
+use Rattle.std.specs.Prelude.{ℕ, List, length, Result, Ok, Err}
 use Rattle.std.proofs.lemmas.List.Edits.{sets}
 use Rattle.words.specs.declared.Config.{Config}
 use Rattle.syntax.specs.Assembly.{assemble_of}
-use Rattle.assembler.specs.declared.Assembled.{Assembled}
+use Rattle.assembler.specs.Errors.{number_of, line_of}
+use Rattle.assembler.specs.declared.errors.AssembleError.{AssembleError}
 
 -- document 02's number, the line that it names, how many words were written, and the lent words then
 pub record Answer : Type 0 where
@@ -12,8 +13,12 @@ pub record Answer : Type 0 where
   pub count : ℕ
   pub words : List ℕ
 
-abbrev pub assembled_of : Assembled → List ℕ → Answer
-assembled_of r after = record { number = r.number; line = r.line; count = r.count; words = after }
+abbrev pub count_of : Result ℕ AssembleError → ℕ
+count_of (Ok n) = n
+count_of (Err e) = 0
+
+abbrev pub assembled_of : Result ℕ AssembleError → List ℕ → Answer
+assembled_of r after = record { number = number_of r; line = line_of r; count = count_of r; words = after }
 
 -- "A pass answers how many words it wrote; a refusal writes none." Words beyond the count stay.
 unfoldable pub assemble_call : Config → List ℕ → List ℕ → Answer

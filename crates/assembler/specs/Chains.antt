@@ -1,6 +1,6 @@
 -- Labels as numbers, and the table of those that a text defines, as code holds them. Nothing here is to be believed: proofs/labels/Laws.antt ties it to syntax's
 -- Labels.
-use Rattle.std.specs.Prelude.{◌≡◌, Bool, true, ◌&&◌, List, [], ◌∷◌, ℕ, zero, suc, ◌+◌, ◌-◌, ◌*◌, ◌/◌, ◌%◌, ◌<◌, T, eqb, ltb, length, get_or, set}
+use Rattle.std.specs.Prelude.{◌≡◌, Bool, true, ◌&&◌, List, [], ◌∷◌, ℕ, zero, suc, ◌+◌, ◌*◌, ◌/◌, ◌%◌, ◌<◌, T, eqb, ltb, length, get_or, Option, Some, None}
 use Rattle.laws.specs.Choice.{pick}
 use Rattle.syntax.specs.Lines.{is_small, is_label}
 use Rattle.syntax.specs.Labels.{Label, Found, at, nowhere}
@@ -9,10 +9,6 @@ use Rattle.syntax.specs.Labels.{Label, Found, at, nowhere}
 abbrev pub spell : ℕ → List ℕ → ℕ
 spell a [] = a
 spell a (b ∷ l) = spell (32 * a + b % 32) l
-
--- a label's number; 0 where the letters are no label
-unfoldable pub label_key : List ℕ → ℕ
-label_key s = pick (is_label s) (spell 0 s) 0
 
 abbrev pub all_small : List ℕ → Bool
 all_small [] = true
@@ -29,10 +25,10 @@ abbrev pub last_in : List ℕ → ℕ → ℕ → ℕ
 last_in keys zero h = 0
 last_in keys (suc n) h = pick (eqb (hash_of (get_or keys n 0)) h) (suc n) (last_in keys n h)
 
--- the last of the first n entries of number x
-abbrev pub lookup : List ℕ → ℕ → ℕ → ℕ
-lookup keys zero x = 0
-lookup keys (suc n) x = pick (eqb (get_or keys n 0) x) (suc n) (lookup keys n x)
+-- the last of the first n entries of number x, if there is one
+abbrev pub lookup : List ℕ → ℕ → ℕ → Option ℕ
+lookup keys zero x = None
+lookup keys (suc n) x = pick (eqb (get_or keys n 0) x) (Some n) (lookup keys n x)
 
 -- the chains of the first n entries are right
 pub record Chained (heads nexts keys : List ℕ) (n : ℕ) : Type 0 where
@@ -50,18 +46,12 @@ Keyed keys places (x ∷ xs) =
     T (is_label x.name) × T (all_small x.name) × (get_or keys (length xs) 0 ≡ spell 0 x.name) × (get_or places (length xs) 0 ≡ capped x.address) ×
     Keyed keys places xs
 
--- the place that entry k holds
-unfoldable pub place_of : List ℕ → ℕ → ℕ
-place_of places k = pick (eqb k 0) 0xffffffff (get_or places (k - 1) 0)
+-- the place that an entry holds
+abbrev pub place_of : List ℕ → Option ℕ → Option ℕ
+place_of places None = None
+place_of places (Some k) = Some (get_or places k 0)
 
 -- an address as the table gives it
-abbrev pub aim : Found → ℕ
-aim nowhere = 0xffffffff
-aim (at a) = capped a
-
--- the table after label x is added as entry n
-pub record Inserted (heads nexts keys places : List ℕ) (n x address : ℕ) (heads' nexts' keys' places' : List ℕ) : Type 0 where
-  pub heads_set : heads' ≡ set heads (hash_of x) (suc n)
-  pub nexts_set : nexts' ≡ set nexts n (get_or heads (hash_of x) 0)
-  pub keys_set : keys' ≡ set keys n x
-  pub places_set : places' ≡ set places n (capped address)
+abbrev pub aim : Found → Option ℕ
+aim nowhere = None
+aim (at a) = Some (capped a)

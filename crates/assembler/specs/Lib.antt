@@ -1,5 +1,9 @@
 pub mod Bytes
 pub mod Chains
+pub mod Errors
+pub mod Entries
+pub mod Keys
+pub mod Tables
 pub mod Heads
 pub mod Packed
 pub mod Openings

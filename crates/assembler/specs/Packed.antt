@@ -1,5 +1,5 @@
 -- The forms as code holds them: 32 bytes each. Nothing here is to be believed: proofs/Packed.antt ties it to syntax's Forms.
-use Rattle.std.specs.Prelude.{ℕ, zero, suc, ◌+◌, ◌-◌, ◌*◌, ◌<◌, ◌≤◌, Bool, true, ◌&&◌, ◌||◌, ◌≡◌, List, [], ◌∷◌, ◌++◌, eqb, length, get_or, drop}
+use Rattle.std.specs.Prelude.{ℕ, zero, suc, ◌+◌, ◌*◌, ◌<◌, ◌≤◌, Bool, true, ◌&&◌, ◌||◌, ◌≡◌, List, [], ◌∷◌, ◌++◌, eqb, length, get_or, drop, Option, Some, None}
 use Rattle.std.proofs.Math.Seq.{slice}
 use Rattle.laws.specs.Lists.{column}
 use Rattle.words.specs.declared.Instruction.{Instruction}
@@ -8,13 +8,11 @@ use Rattle.syntax.specs.Pieces.{Class, byte, pattern, width_in, place_in, is_hex
 use Rattle.syntax.specs.Pieces.Class.{digit as any}
 use Rattle.syntax.specs.Forms.{Form, pieces_of, forms}
 use Rattle.syntax.specs.Reading.{Line, found, unread, read_line}
-use Rattle.assembler.specs.Heads.{head_table, link_table}
-use Rattle.assembler.specs.declared.Parsed.{Parsed}
-use Rattle.assembler.specs.declared.Parsed.TheVariants.{Found, Unread}
 
-abbrev pub line_of : Parsed → Line
-line_of (Found i) = found i
-line_of Unread = unread
+-- what a line reads as
+abbrev pub line_of : Option Instruction → Line
+line_of None = unread
+line_of (Some i) = found i
 
 -- a pattern as bytes: a small a stands for any digit, and 0, behind the end, for any byte
 
@@ -44,12 +42,6 @@ joined (x ∷ xs) = x ++ joined xs
 
 unfoldable pub form_table : List ℕ
 form_table = joined (column entry_of forms)
-
--- the tables that are lent are these
-pub record Lent (forms links heads : List ℕ) : Type 0 where
-  pub forms_right : forms ≡ form_table
-  pub links_right : links ≡ link_table
-  pub heads_right : heads ≡ head_table
 
 -- What the code does by the table, whatever it holds
 
@@ -87,16 +79,14 @@ read_in t q l =
       value = part_in t (32 * q + 24) l;
     }
 
--- the form of the n bytes of t from `at` on is that of number r, counted from 1, by which they are read; 0 where they are in none
+-- the n bytes of t from `at` on are in form q, by which they are read; or in none
+pub record Ready (t : List ℕ) (at n q : ℕ) : Type 0 where
+  pub below : q < 186
+  pub upper : Shown form_table (32 * q + 20) at (length t)
+  pub lower : Shown form_table (32 * q + 22) at (length t)
+  pub rest : Shown form_table (32 * q + 24) at (length t)
+  pub reads : found (read_in form_table q (drop at t)) ≡ read_line (slice at (at + n) t)
 
-pub record Ready (forms t : List ℕ) (at n r : ℕ) : Type 0 where
-  pub below : r - 1 < 186
-  pub long : length forms ≡ 5952
-  pub upper : Shown forms (32 * (r - 1) + 20) at (length t)
-  pub lower : Shown forms (32 * (r - 1) + 22) at (length t)
-  pub rest : Shown forms (32 * (r - 1) + 24) at (length t)
-  pub reads : found (read_in forms (r - 1) (drop at t)) ≡ read_line (slice at (at + n) t)
-
-pub record Finds (forms t : List ℕ) (at n r : ℕ) : Type 0 where
-  pub none : r ≡ 0 → read_line (slice at (at + n) t) ≡ unread
-  pub some : (r ≡ 0 → ⊥) → Ready forms t at n r
+abbrev pub Finds : List ℕ → ℕ → ℕ → Option ℕ → Type 0
+Finds t at n None = unread ≡ read_line (slice at (at + n) t)
+Finds t at n (Some q) = Ready t at n q

@@ -1,35 +1,34 @@
 // Bytes of a line: total readers, and the classes of bytes.
-ghost use Rattle.std.specs.Prelude.{◌≡◌, ◌+◌, ◌≤◌, length, get_or};
+ghost use Rattle.std.specs.Prelude.{◌≡◌, ◌==◌, not, ◌+◌, ◌≤◌, length, get_or, take, position, unwrap_or};
 ghost use Rattle.syntax.specs.Pieces.{is_hex};
 ghost use Rattle.syntax.specs.Lines.{is_small, letters_of};
 ghost use Rattle.syntax.specs.Labels.{name_length};
-ghost use Rattle.laws.specs.Choice.{pick};
 ghost use Rattle.assembler.specs.Bytes.{byte_before, is_beyond, newlines_in, Ended, LineEnd};
 
 // How many bytes are looked at in one go.
 const BLOCK: usize = 16;
 
-pub const NEWLINE: u8 = 10;
+pub const NEWLINE: u8 = b'\n';
 
-pub const SPACE: u8 = 32;
+pub const SPACE: u8 = b' ';
 
-pub const DIGIT_0: u8 = 48;
+pub const DIGIT_0: u8 = b'0';
 
-pub const DIGIT_9: u8 = 57;
+pub const DIGIT_9: u8 = b'9';
 
-pub const COLON: u8 = 58;
+pub const COLON: u8 = b':';
 
-pub const SMALL_A: u8 = 97;
+pub const SMALL_A: u8 = b'a';
 
-pub const SMALL_F: u8 = 102;
+pub const SMALL_F: u8 = b'f';
 
-pub const SMALL_Z: u8 = 122;
+pub const SMALL_Z: u8 = b'z';
 
 // A byte; past the end 0.
 pub fn byte_at(t: &[u8], i: usize) -> u8
     ensures { result ≡ get_or t.now i 0 }
 {
-    if i < t.len() { t[i] } else { 0 }
+    t.get(i).copied().unwrap_or(0)
 }
 
 // Byte j from the end, counted from 1; before the start 0.
@@ -59,22 +58,14 @@ pub fn is_beyond(b: u8) -> bool
     (SMALL_F < b) & (b <= SMALL_Z)
 }
 
-fn bit(b: bool) -> u32
-    ensures { (result ≡ pick b 1 0) × (result ≤ 1) }
-{
-    if b { 1 } else { 0 }
-}
-
 // Which of the 16 bytes from `from` on are newlines: bit j says it of byte j. No early end, so that they are compared at once.
 fn newlines(text: &[u8], from: usize) -> u32
     requires { from + 16 ≤ length text.now }
     ensures { result ≡ newlines_in 16 text.now from }
 {
     let mut m: u32 = 0;
-    let mut j = BLOCK;
-    while 0 < j {
-        j -= 1;
-        m = 2 * m + bit(text[from + j] == NEWLINE);
+    for j in (0..BLOCK).rev() {
+        m = 2 * m + u32::from(text[from + j] == NEWLINE);
     }
     m
 }
@@ -84,14 +75,12 @@ fn next_newline(text: &[u8], from: usize) -> usize
     requires { from ≤ length text.now }
     ensures { Ended text.now from result }
 {
-    let mut j = from;
-    while j < text.len() {
+    for j in from..text.len() {
         if text[j] == NEWLINE {
             return j;
         }
-        j += 1;
     }
-    j
+    text.len()
 }
 
 // Where the line that starts at `from` ends: at the next newline, or at the text's end.
@@ -110,30 +99,31 @@ pub fn line_end(text: &[u8], from: usize) -> usize
     next_newline(text, j)
 }
 
-// How many bytes stand before a line's first space.
-pub fn name_length(t: &[u8]) -> usize
-    ensures { (result ≡ name_length t.now) × (result ≤ length t.now) }
+// Where a line's first space stands.
+fn first_space(t: &[u8]) -> Option<usize>
+    ensures { result ≡ position (λ b. b == 32) t.now }
 {
-    let mut j = 0;
-    while j < t.len() {
-        if t[j] == SPACE {
-            return j;
-        }
-        j += 1;
-    }
-    j
+    t.iter().position(|b| *b == SPACE)
 }
 
-// How many small letters a line starts with.
-pub fn letters_in(t: &[u8]) -> usize
-    ensures { (result ≡ length (letters_of t.now)) × (result ≤ length t.now) }
+// Where the first byte stands that is no small letter.
+fn letters_end(t: &[u8]) -> Option<usize>
+    ensures { result ≡ position (λ b. not (is_small b)) t.now }
 {
-    let mut j = 0;
-    while j < t.len() {
-        if !is_small(t[j]) {
-            return j;
-        }
-        j += 1;
-    }
-    j
+    t.iter().position(|b| !is_small(*b))
+}
+
+// How many bytes stand before a line's first space.
+pub fn name_length(t: &[u8]) -> usize
+    ensures { result ≡ name_length t.now }
+{
+    first_space(t).unwrap_or(t.len())
+}
+
+// The small letters that a line starts with.
+pub fn letters(t: &[u8]) -> &[u8]
+    ensures { result.now ≡ letters_of t.now }
+{
+    let end = letters_end(t).unwrap_or(t.len());
+    &t[..end]
 }

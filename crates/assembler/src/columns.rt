@@ -1,7 +1,7 @@
 // The forms of lines, and where to look for the form of a line, as bytes (specs/Packed.antt, specs/Heads.antt). Written by tools/texts.
 
 // 32 bytes a form.
-pub const FORMS: [u8; 5952] = [
+pub static FORMS: [u8; 5952] = [
     84, 83, 84, 32, 37, 97, 97, 44, 37, 97, 97, 44, 83, 0, 0, 0, 13, 0, 0, 0, 5, 2, 9, 2, 13, 0, 0,
     0, 0, 0, 0, 0, 84, 83, 84, 32, 37, 97, 97, 44, 37, 97, 97, 0, 0, 0, 0, 0, 11, 0, 1, 0, 5, 2, 9,
     2, 11, 0, 0, 0, 0, 0, 0, 0, 84, 83, 84, 32, 37, 97, 97, 44, 35, 97, 97, 97, 97, 44, 83, 0, 15,
@@ -226,7 +226,7 @@ pub const FORMS: [u8; 5952] = [
 ];
 
 // For each form the one before it with the same key, counted from 1; 0 where there is none.
-pub const LINKS: [u8; 186] = [
+pub static LINKS: [u8; 186] = [
     0, 0, 0, 0, 0, 0, 0, 0, 0, 0, 0, 0, 0, 0, 0, 0, 0, 0, 0, 0, 0, 0, 0, 0, 0, 0, 0, 0, 0, 0, 0, 0,
     0, 0, 0, 0, 0, 0, 0, 0, 0, 0, 0, 0, 0, 0, 0, 0, 0, 0, 0, 0, 0, 0, 0, 0, 0, 0, 0, 0, 0, 40, 0,
     0, 0, 0, 0, 0, 0, 0, 0, 0, 0, 29, 0, 0, 0, 0, 0, 0, 0, 0, 0, 32, 0, 0, 0, 0, 0, 0, 0, 26, 0, 0,
@@ -237,7 +237,7 @@ pub const LINKS: [u8; 186] = [
 ];
 
 // For each key the last form that has it, counted from 1; 0 where there is none.
-pub const HEADS: [u8; 512] = [
+pub static HEADS: [u8; 512] = [
     149, 0, 5, 42, 0, 0, 0, 0, 132, 0, 0, 0, 55, 0, 0, 0, 0, 0, 0, 94, 0, 0, 0, 85, 0, 0, 0, 0, 0,
     0, 0, 0, 0, 0, 0, 0, 0, 0, 126, 0, 53, 164, 162, 0, 0, 2, 0, 0, 151, 0, 0, 0, 46, 103, 0, 0,
     133, 0, 0, 0, 0, 0, 177, 0, 0, 96, 82, 97, 0, 0, 0, 0, 0, 0, 0, 116, 0, 110, 0, 0, 0, 0, 0, 50,

@@ -1,10 +1,13 @@
-// One line of text: the form that claims it, and the instruction that it spells. The tables are lent (specs/Packed.antt, specs/Heads.antt).
+// One line of text: the form that claims it, and the instruction that it spells (specs/Packed.antt, specs/Heads.antt).
 ghost use Rattle.std.specs.Prelude.{◌≡◌, not, ◌+◌, ◌*◌, ◌<◌, ◌≤◌, length, get_or, drop};
+ghost use Rattle.std.proofs.Math.Seq.{slice};
 ghost use Rattle.syntax.specs.Pieces.{number_in};
+ghost use Rattle.syntax.specs.Reading.{read_line};
 ghost use Rattle.assembler.specs.Heads.{mark_of, key_of};
-ghost use Rattle.assembler.specs.Packed.{admits, matching, Padded, is_form_in, part_in, Shown, read_in, Finds, Lent};
+ghost use Rattle.assembler.specs.Packed.{form_table, admits, matching, is_form_in, part_in, Shown, read_in, line_of, Finds};
 
 use crate::bytes::{byte_at, byte_before, is_hex};
+use crate::tables::{form_byte, head, link};
 use words::Instruction;
 
 // The layout of a form in the table: its pattern, then its length, row, bit 26 and byte number, then place and width of each part.
@@ -47,40 +50,30 @@ fn admits_byte(p: u8, b: u8) -> bool
 }
 
 // Whether n bytes of t from `at` on differ from the pattern that stands from `from` on. No early end: 16 bytes are compared at once.
-fn differs(forms: &[u8], from: usize, t: &[u8], at: usize, n: usize) -> bool
-    requires { (from + n ≤ length forms.now) × (at + n ≤ length t.now) }
-    ensures { result ≡ not (matching n forms.now from t.now at) }
+fn differs(from: usize, t: &[u8], at: usize, n: usize) -> bool
+    requires { (from + n ≤ 5952) × (at + n ≤ length t.now) }
+    ensures { result ≡ not (matching n form_table from t.now at) }
 {
     let mut bad = false;
-    let mut j = 0;
-    while j < n {
-        bad = bad | !admits_byte(forms[from + j], t[at + j]);
-        j += 1;
+    for j in 0..n {
+        bad |= !admits_byte(form_byte(from + j), t[at + j]);
     }
     bad
 }
 
-// The same for a line of n bytes, where the pattern takes any byte behind them.
-fn matches(forms: &[u8], from: usize, t: &[u8], at: usize, n: usize) -> bool
-    requires { (n ≤ 16) × (from + 16 ≤ length forms.now) × (at + n ≤ length t.now) × Padded forms.now from n }
-    ensures { result ≡ matching n forms.now from t.now at }
-{
-    if PATTERN <= t.len() - at {
-        !differs(forms, from, t, at, PATTERN)
-    } else {
-        !differs(forms, from, t, at, n)
-    }
-}
-
-fn is_form(forms: &[u8], q: usize, t: &[u8], at: usize, n: usize) -> bool
-    requires { (q < 186) × (n ≤ 16) × (length forms.now ≡ 5952) × (at + n ≤ length t.now) × (get_or forms.now (32 * q + 16) 0 ≡ n → Padded forms.now (32 * q) n) }
-    ensures { result ≡ is_form_in forms.now q t.now at n }
+// Whether n bytes of t from `at` on are in form q. Its pattern takes any byte behind its end.
+fn is_form(q: usize, t: &[u8], at: usize, n: usize) -> bool
+    requires { (q < 186) × (n ≤ 16) × (at + n ≤ length t.now) }
+    ensures { result ≡ is_form_in form_table q t.now at n }
 {
     let k = ENTRY * q;
-    if forms[k + LENGTH] as usize == n {
-        matches(forms, k, t, at, n)
+    if form_byte(k + LENGTH) as usize != n {
+        return false;
+    }
+    if PATTERN <= t.len() - at {
+        !differs(k, t, at, PATTERN)
     } else {
-        false
+        !differs(k, t, at, n)
     }
 }
 
@@ -90,37 +83,35 @@ fn number_at(t: &[u8], at: usize, w: usize) -> u32
     ensures { result ≡ number_in w (drop at t.now) }
 {
     let mut m: u32 = 0;
-    let mut j = 0;
-    while j < w {
+    for j in 0..w {
         let b = t[at + j] as u32;
         m = 16 * m + (b % 16 + 9 * (b / 64));
-        j += 1;
     }
     m
 }
 
 // What the line at `at` shows of the part whose place and width stand at k.
-fn part_of(forms: &[u8], k: usize, t: &[u8], at: usize) -> u32
-    requires { (k + 2 ≤ length forms.now) × Shown forms.now k at (length t.now) }
-    ensures { result ≡ part_in forms.now k (drop at t.now) }
+fn part_of(k: usize, t: &[u8], at: usize) -> u32
+    requires { (k + 2 ≤ 5952) × Shown form_table k at (length t.now) }
+    ensures { result ≡ part_in form_table k (drop at t.now) }
 {
-    let place = forms[k] as usize;
-    let width = forms[k + 1] as usize;
+    let place = form_byte(k) as usize;
+    let width = form_byte(k + 1) as usize;
     number_at(t, at + place, width)
 }
 
 // What form q reads off the line at `at`.
-pub fn read_by(forms: &[u8], q: usize, t: &[u8], at: usize) -> Instruction
-    requires { (q < 186) × (length forms.now ≡ 5952) × Shown forms.now (32 * q + 20) at (length t.now) × Shown forms.now (32 * q + 22) at (length t.now) × Shown forms.now (32 * q + 24) at (length t.now) }
-    ensures { result ≡ read_in forms.now q (drop at t.now) }
+fn read_by(q: usize, t: &[u8], at: usize) -> Instruction
+    requires { (q < 186) × Shown form_table (32 * q + 20) at (length t.now) × Shown form_table (32 * q + 22) at (length t.now) × Shown form_table (32 * q + 24) at (length t.now) }
+    ensures { result ≡ read_in form_table q (drop at t.now) }
 {
     let k = ENTRY * q;
-    let row = forms[k + ROW] as u32;
-    let flag = forms[k + FLAG] as u32;
-    let number = forms[k + NUMBER] as u32;
-    let destination = part_of(forms, k + DESTINATION, t, at);
-    let source = part_of(forms, k + SOURCE, t, at);
-    let value = part_of(forms, k + VALUE, t, at);
+    let row = form_byte(k + ROW) as u32;
+    let flag = form_byte(k + FLAG) as u32;
+    let number = form_byte(k + NUMBER) as u32;
+    let destination = part_of(k + DESTINATION, t, at);
+    let source = part_of(k + SOURCE, t, at);
+    let value = part_of(k + VALUE, t, at);
     Instruction {
         row,
         flag,
@@ -154,21 +145,30 @@ fn key_of(line: &[u8]) -> usize
     ((START * start + SHAPE * shape) / DIVISOR % KEYS) as usize
 }
 
-// The form of the n bytes from `at` on, counted from 1, by which they are read; 0 where they are in none.
-pub fn find_form(forms: &[u8], links: &[u8], heads: &[u8], t: &[u8], at: usize, n: usize) -> usize
-    requires { Lent forms.now links.now heads.now × (at + n ≤ length t.now) }
-    ensures { Finds forms.now t.now at n result }
+// The form that the n bytes from `at` on are in, if they are in one.
+fn find(t: &[u8], at: usize, n: usize) -> Option<usize>
+    requires { at + n ≤ length t.now }
+    ensures { Finds t.now at n result }
 {
     if PATTERN < n {
-        return 0;
+        return None;
     }
-    let h = key_of(&t[at..at + n]);
-    let mut q = byte_at(heads, h) as usize;
+    let mut q = head(key_of(&t[at..at + n]));
     while 0 < q {
-        if is_form(forms, q - 1, t, at, n) {
-            return q;
+        if is_form(q - 1, t, at, n) {
+            return Some(q - 1);
         }
-        q = byte_at(links, q - 1) as usize;
+        q = link(q - 1);
     }
-    0
+    None
+}
+
+// What the n bytes from `at` on read as, if they are in a form. Inlined, so that an instruction is not written to memory for the caller to load it again.
+#[inline(always)]
+pub fn read(t: &[u8], at: usize, n: usize) -> Option<Instruction>
+    requires { at + n ≤ length t.now }
+    ensures { line_of result ≡ read_line (slice at (at + n) t.now) }
+{
+    let q = find(t, at, n)?;
+    Some(read_by(q, t, at))
 }

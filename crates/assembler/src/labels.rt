@@ -1,120 +1,106 @@
-// Labels as numbers, and the table of those that a text defines: chains of entries, the last one first (specs/Chains.antt).
-ghost use Rattle.std.specs.Prelude.{◌≡◌, ◌<◌, ◌≤◌, length, get_or};
-ghost use Rattle.syntax.specs.Lines.{letters_of};
-ghost use Rattle.assembler.specs.Chains.{label_key, hash_of, lookup, capped, place_of, Chained, Inserted};
+// The labels that a text defines: chains of entries, the last one first (specs/Chains.antt).
+ghost use Rattle.std.specs.Prelude.{◌≡◌, [], ◌<◌, ◌≤◌, eqb, IfSome};
+ghost use Rattle.assembler.specs.Chains.{Chained, capped};
+ghost use Rattle.assembler.specs.Entries.{keys_of, nexts_of};
 
-use crate::bytes::SMALL_F;
+use crate::keys::Key;
 
 // How many labels the table holds.
-pub const LIMIT: usize = 1024;
-// What stands for no address.
-pub const NOWHERE: u32 = 0xffffffff;
+const LIMIT: usize = 1024;
+
 // Any address from here on is out of every target's range.
-pub const FAR: usize = 0x800000;
-// How many letters a label has at most.
-const LETTERS: usize = 12;
+const FAR: usize = 0x800000;
 
-// The label that the n letters spell as one number, five bits a letter; 0 where they are no label.
-pub fn label_key(t: &[u8], n: usize) -> u64
-    requires { n ≡ length (letters_of t.now) }
-    ensures { (result ≡ label_key (letters_of t.now)) × (result < 0x1000000000000000) }
-{
-    if LETTERS < n {
-        return 0;
-    }
-    let mut x: u64 = 0;
-    let mut beyond = false;
-    let mut j = 0;
-    while j < n {
-        let b = t[j];
-        x = 32 * x + (b % 32) as u64;
-        beyond = beyond | (SMALL_F < b);
-        j += 1;
-    }
-    if beyond { x } else { 0 }
+// A label, its address, and the entry before it of the same hash: entries are counted from 1 there, and 0 is none.
+#[derive(Clone, Copy)]
+struct Entry {
+    key: u64,
+    place: u32,
+    next: u16,
 }
 
-// The chain of label x, from bits of both ends of its number.
-fn hash(x: u64) -> usize
-    requires { x < 0x1000000000000000 }
-    ensures { result ≡ hash_of x }
-{
-    ((x / 32768 + 7 * x) / 4 % 1024) as usize
-}
-
-fn link_at(t: &[u16], i: usize) -> usize
-    ensures { result ≡ get_or t.now i 0 }
-{
-    if i < t.len() { t[i] as usize } else { 0 }
-}
-
-fn key_at(t: &[u64], i: usize) -> u64
-    ensures { result ≡ get_or t.now i 0 }
-{
-    if i < t.len() { t[i] } else { 0 }
+// The last entry of each hash, counted as in an entry; the entries, of which the first `count` are labels.
+#[derive(Drop)]
+pub struct Labels {
+    heads: [u16; 1024],
+    entries: [Entry; LIMIT],
+    count: usize,
+    pub ghost few: { count ≤ 1024 },
+    pub ghost chained: { Chained heads (nexts_of entries) (keys_of entries) count },
 }
 
 fn cap(address: usize) -> u32
     ensures { result ≡ capped address }
 {
-    if address < FAR {
-        address as u32
-    } else {
-        FAR as u32
-    }
+    address.min(FAR) as u32
 }
 
-// The last of the first n entries that is label x, counted from 1; 0 where none is.
-pub fn find(heads: &[u16], nexts: &[u16], keys: &[u64], n: usize, x: u64) -> usize
-    requires { Chained heads.now nexts.now keys.now n × (n ≤ 1024) × (x < 0x1000000000000000) }
-    ensures { result ≡ lookup keys.now n x }
-{
-    let mut k = link_at(heads, hash(x));
-    while 0 < k {
-        k -= 1;
-        if key_at(keys, k) == x {
-            return k + 1;
+impl Labels {
+    ghost use Rattle.std.specs.Prelude.{is_some};
+    ghost use Rattle.assembler.specs.Tables.{Tabled, Inserted, index_of, address_of};
+
+    pub fn new() -> Self
+        ensures { Tabled result [] }
+    {
+        Labels {
+            heads: [0; 1024],
+            entries: [Entry {
+                key: 0,
+                place: 0,
+                next: 0,
+            }; LIMIT],
+            count: 0,
         }
-        k = link_at(nexts, k);
     }
-    0
-}
 
-// Adds label x with its address as entry n.
-pub fn insert(
-    heads: &mut [u16],
-    nexts: &mut [u16],
-    keys: &mut [u64],
-    places: &mut [u32],
-    n: usize,
-    x: u64,
-    address: usize,
-)
-    requires { (n < 1024) × (length heads.old ≡ 1024) × (length nexts.old ≡ 1024) × (length keys.old ≡ 1024) × (length places.old ≡ 1024) × (x < 0x1000000000000000) }
-    ensures { Inserted heads.old nexts.old keys.old places.old n x address heads.new nexts.new keys.new places.new }
-{
-    let h = hash(x);
-    keys[n] = x;
-    places[n] = cap(address);
-    nexts[n] = heads[h];
-    heads[h] = (n + 1) as u16;
-}
-
-// The address of label x among the first n entries; NOWHERE where there is none.
-pub fn address_of(
-    heads: &[u16],
-    nexts: &[u16],
-    keys: &[u64],
-    places: &[u32],
-    n: usize,
-    x: u64,
-) -> u32
-    requires { Chained heads.now nexts.now keys.now n × (n ≤ 1024) × (x < 0x1000000000000000) × (length places.now ≡ 1024) }
-    ensures { result ≡ place_of places.now (lookup keys.now n x) }
-{
-    let k = find(heads, nexts, keys, n, x);
-    if k == 0 {
-        return NOWHERE;
+    pub fn is_full(&self) -> bool
+        ensures { result ≡ eqb self.now.count 1024 }
+    {
+        self.count == LIMIT
     }
-    places[k - 1]
+
+    // The last entry of the label.
+    fn find(&self, key: Key) -> Option<usize>
+        ensures value { result ≡ index_of self.now key.number }
+        ensures within { IfSome result (λ k. k < 1024) }
+    {
+        let mut k = self.heads[key.hash()] as usize;
+        while 0 < k {
+            let entry = self.entries[k - 1];
+            if entry.key == key.number {
+                return Some(k - 1);
+            }
+            k = entry.next as usize;
+        }
+        None
+    }
+
+    pub fn contains(&self, key: Key) -> bool
+        ensures { result ≡ is_some (index_of self.now key.number) }
+    {
+        self.find(key).is_some()
+    }
+
+    // The address of the label, if it is there.
+    pub fn address_of(&self, key: Key) -> Option<u32>
+        ensures { result ≡ address_of self.now key.number }
+    {
+        let k = self.find(key)?;
+        Some(self.entries[k].place)
+    }
+
+    // Adds the label with its address.
+    pub fn insert(&mut self, key: Key, address: usize)
+        requires { self.old.count < 1024 }
+        ensures { Inserted self.old key.number address self.new }
+    {
+        let h = key.hash();
+        self.entries[self.count] = Entry {
+            key: key.number,
+            place: cap(address),
+            next: self.heads[h],
+        };
+        self.count += 1;
+        self.heads[h] = self.count as u16;
+    }
 }

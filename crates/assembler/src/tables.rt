@@ -1,24 +1,29 @@
-// The tables of forms. A constant has no storage of its own, so a caller takes them once and lends them.
-ghost use Rattle.std.specs.Prelude.{◌≡◌};
+// The bytes of the tables of forms.
+ghost use Rattle.std.specs.Prelude.{◌≡◌, ◌<◌, get_or};
 ghost use Rattle.assembler.specs.Heads.{head_table, link_table};
 ghost use Rattle.assembler.specs.Packed.{form_table};
 
 use crate::columns::{FORMS, HEADS, LINKS};
 
-pub fn form_table() -> [u8; 5952]
-    ensures { result ≡ form_table }
+pub fn form_byte(i: usize) -> u8
+    requires { i < 5952 }
+    ensures { result ≡ get_or form_table i 0 }
 {
-    FORMS
+    FORMS[i]
 }
 
-pub fn link_table() -> [u8; 186]
-    ensures { result ≡ link_table }
+// The form before form q with the same key, counted from 1; 0 where there is none.
+pub fn link(q: usize) -> usize
+    requires { q < 186 }
+    ensures { result ≡ get_or link_table q 0 }
 {
-    LINKS
+    LINKS[q] as usize
 }
 
-pub fn head_table() -> [u8; 512]
-    ensures { result ≡ head_table }
+// The last form with this key, counted from 1; 0 where there is none.
+pub fn head(key: usize) -> usize
+    requires { key < 512 }
+    ensures { result ≡ get_or head_table key 0 }
 {
-    HEADS
+    HEADS[key] as usize
 }

@@ -1,16 +1,19 @@
 -- Laws of lines, names and letters, read byte by byte.
 -- Assumes nothing.
 use mathlib.Core.Path.{◌≡◌, refl, ap, sym, ◌∙◌}
-use mathlib.Core.Bool.{Bool, true, false, not}
+use mathlib.Core.Bool.{Bool, true, false, not, cond}
 use mathlib.Core.List.{List, [], ◌∷◌}
 use Prim.Native.Nat.{ℕ, zero, suc, ◌+◌, ◌-◌, ◌*◌, ◌/◌, ◌%◌, ◌^◌, ◌<◌, ◌≤◌}
 use native.Mathlib.Nat.{add-zero, zero-add, suc-add, pow-suc, pow-le-pow_right}
-use native.Mathlib.Numerals.{add-one}
 use native.Mathlib.Omega.{arith}
-use borrow.Author.Tests.{eq-eqb, ne_eqb, le-leb, lt-leb, eqb-true, eqb-false, leb-true, leb-false, not-true, not-false}
-use lib.Dec.{eqb, leb, leb-zero, leb-suc-suc}
-use lib.ListN.{length, get_or, take, drop, length-drop, drop_of_length-le}
-use lib.Seq.{slice, length-take-le, take-add, drop_at, take-nil, drop-cons, get_or-drop}
+use borrow.Author.Tests.{ltb-false, eq-eqb, ne_eqb, le-leb, lt-leb, eqb-true, eqb-false, leb-true, leb-false}
+use lib.Dec.{eqb, leb, ltb, leb-zero, leb-suc-suc}
+use lib.ListN.{length, get_or, take, drop, length-drop}
+use lib.Seq.{slice, length-take-le, take-add, drop_at, take-nil, get_or-drop}
+use Rattle.std.specs.Int.{from_bool}
+use Rattle.std.specs.List.{position_or_len, position}
+use Rattle.std.specs.Option.{unwrap_or}
+use Rattle.std.specs.Prelude.{Option, Some, None}
 use Rattle.laws.specs.Choice.{pick}
 use Rattle.syntax.specs.Lines.{onto, lines_of, is_small, letters_of}
 use Rattle.syntax.specs.Labels.{name_length}
@@ -86,43 +89,53 @@ line_ends text s r h i f g =
       parted = lines_here text s (omega arith) ∙ (first ∙ rw (← slice_take text s (r - s), e, lines_rest text s (suc (r - s)) (omega arith), e'));
     }
 
--- one byte more that is no newline
-pub line_more : (text : List ℕ) (s r : ℕ) → ((k : ℕ) → s ≤ k → k < r → get_or text k 0 ≡ 10 → ⊥) → (get_or text r 0 ≡ 10 → ⊥) →
-    (k : ℕ) → s ≤ k → k < r + 1 → get_or text k 0 ≡ 10 → ⊥
-line_more text s r f n k h i e = go (eqb k r) refl
+-- the first byte of a kind, or the end
+first_or_end : (p : ℕ → Bool) (t : List ℕ) → unwrap_or (position p t) (length t) ≡ position_or_len p t
+first_or_end p t = go (ltb (position_or_len p t) (length t)) refl
   where
-    go : (b : Bool) → eqb k r ≡ b → ⊥
-    go true u = n (rw (eqb-true k r u) at e)
-    go false u = f k h (let d = eqb-false k r u in omega arith) e
+    inside : (t : List ℕ) → position_or_len p t ≤ length t
+    inside [] = omega arith
+    inside (b ∷ t) = by (p b) (inside t)
+      where
+        by : (y : Bool) → position_or_len p t ≤ length t → cond (not y) (1 + position_or_len p t) 0 ≤ suc (length t)
+        by true h = omega arith
+        by false h = omega arith
 
--- names: what is passed and what is left make the whole
+    go : (y : Bool) → ltb (position_or_len p t) (length t) ≡ y → unwrap_or (cond y (Some (position_or_len p t)) None) (length t) ≡ position_or_len p t
+    go true u = refl
+    go false u = let h = ltb-false (position_or_len p t) (length t) u in let i = inside t in omega arith
 
-pub name_more : (t : List ℕ) (j : ℕ) → j < length t → (get_or t j 0 ≡ 32 → ⊥) → name_length t ≡ j + name_length (drop j t) →
-    name_length t ≡ j + 1 + name_length (drop (j + 1) t)
+-- names and letters end at the first byte that is none of them
+
+name_to : (t : List ℕ) → position_or_len (λ b. eqb b 32) t ≡ name_length t
 unfolding name_length pick
-name_more t j h n e = e ∙ rw (drop-cons t j 0 h, ne_eqb (get_or t j 0) 32 n, add-one j) (omega arith)
+name_to [] = refl
+name_to (b ∷ t) = go (eqb b 32) (name_to t)
+  where
+    go : (y : Bool) → position_or_len (λ b. eqb b 32) t ≡ name_length t →
+        cond (not y) (1 + position_or_len (λ b. eqb b 32) t) 0 ≡ pick y 0 (suc (name_length t))
+    go true e = refl
+    go false e = rw e (omega arith)
 
-pub name_ends : (t : List ℕ) (j : ℕ) → j < length t → get_or t j 0 ≡ 32 → name_length t ≡ j + name_length (drop j t) → j ≡ name_length t
-unfolding name_length pick
-name_ends t j h n e = sym (e ∙ rw (drop-cons t j 0 h, eq-eqb (get_or t j 0) 32 n) (omega arith))
+pub name_is : (t : List ℕ) (r : Option ℕ) → r ≡ position (λ b. eqb b 32) t → unwrap_or r (length t) ≡ name_length t
+name_is t r e = rw e (first_or_end (λ b. eqb b 32) t ∙ name_to t)
 
-pub name_all : (t : List ℕ) (j : ℕ) → length t ≤ j → name_length t ≡ j + name_length (drop j t) → j ≡ name_length t
-unfolding name_length
-name_all t j h e = sym (e ∙ rw (drop_of_length-le t h) (omega arith))
-
-pub letters_more : (t : List ℕ) (j : ℕ) (r : Bool) → j < length t → r ≡ is_small (get_or t j 0) → not r ≡ false → length (letters_of t) ≡ j + length (letters_of (drop j t)) →
-    length (letters_of t) ≡ j + 1 + length (letters_of (drop (j + 1) t))
+letters_to : (t : List ℕ) → take (position_or_len (λ b. not (is_small b)) t) t ≡ letters_of t
 unfolding letters_of pick
-letters_more t j r h m n e = e ∙ rw (drop-cons t j 0 h, sym m ∙ not-false r n, add-one j) (omega arith)
+letters_to [] = refl
+letters_to (b ∷ t) = go (is_small b) (letters_to t)
+  where
+    one : (n : ℕ) → take (1 + n) (b ∷ t) ≡ b ∷ take n t
+    one n = let e : 1 + n ≡ suc n = omega arith in rw e
 
-pub letters_end : (t : List ℕ) (j : ℕ) (r : Bool) → j < length t → r ≡ is_small (get_or t j 0) → not r ≡ true → length (letters_of t) ≡ j + length (letters_of (drop j t)) →
-    j ≡ length (letters_of t)
-unfolding letters_of pick
-letters_end t j r h m n e = sym (e ∙ rw (drop-cons t j 0 h, sym m ∙ not-true r n) (omega arith))
+    go : (y : Bool) → take (position_or_len (λ b. not (is_small b)) t) t ≡ letters_of t →
+        take (cond (not (not y)) (1 + position_or_len (λ b. not (is_small b)) t) 0) (b ∷ t) ≡ pick y (b ∷ letters_of t) []
+    go true e = one (position_or_len (λ b. not (is_small b)) t) ∙ ap (λ (l : List ℕ). b ∷ l) e
+    go false e = refl
 
-pub letters_all : (t : List ℕ) (j : ℕ) → length t ≤ j → length (letters_of t) ≡ j + length (letters_of (drop j t)) → j ≡ length (letters_of t)
-unfolding letters_of
-letters_all t j h e = sym (e ∙ rw (drop_of_length-le t h) (omega arith))
+pub letters_are : (t : List ℕ) (r : Option ℕ) (end : ℕ) → r ≡ position (λ b. not (is_small b)) t → end ≡ unwrap_or r (length t) → take end t ≡ letters_of t
+letters_are t r end e f =
+    ap (λ (n : ℕ). take n t) (f ∙ ap (λ (r : Option ℕ). unwrap_or r (length t)) e ∙ first_or_end (λ b. not (is_small b)) t) ∙ letters_to t
 
 -- a line as code takes it out of the text
 pub part_line : (t : List ℕ) (s e : ℕ) → s ≤ e → e ≤ length t → take (e - s) (drop s t) ≡ slice s e t
@@ -132,6 +145,11 @@ part_line t s e h k =
     rw (take-add s (e - s) t, drop_at (take s t) (take (e - s) (drop s t)) s (length-take-le s t (omega arith))))
 
 -- newlines of a block
+
+bit_is : (b : Bool) → from_bool b ≡ pick {A = ℕ} b 1 0
+unfolding pick
+bit_is true = refl
+bit_is false = refl
 
 bit_small : (b : Bool) → pick {A = ℕ} b 1 0 ≤ 1
 unfolding pick
@@ -145,29 +163,21 @@ newlines_small (suc n) t s =
     let b = bit_small (eqb (get_or t s 0) 10) in
     rw (pow-suc 2 n) (omega arith)
 
+pub bit_few : (b : Bool) → from_bool b ≤ 1
+bit_few b = rw bit_is (bit_small b)
+
 pub newlines_few : (n : ℕ) (t : List ℕ) (s : ℕ) → n ≤ 16 → newlines_in n t s < 65536
 newlines_few n t s h =
     let p = pow-le-pow_right {n = 2} (omega arith) {i = n} {j = 16} h in
     let q = newlines_small n t s in
     omega arith
 
-pub newlines_more : (t : List ℕ) (s j m b : ℕ) → 0 < j → j ≤ 16 → m ≡ newlines_in (16 - j) t (s + j) → b ≡ pick (eqb (get_or t (s + (j - 1)) 0) 10) 1 0 →
+pub newlines_more : (t : List ℕ) (s j m b : ℕ) → 0 < j → j ≤ 16 → m ≡ newlines_in (16 - j) t (s + j) → b ≡ from_bool (eqb (get_or t (s + (j - 1)) 0) 10) →
     2 * m + b ≡ newlines_in (16 - (j - 1)) t (s + (j - 1))
 newlines_more t s j m b h k e f =
     let n : 16 - (j - 1) ≡ suc (16 - j) = omega arith in
     let q : s + j ≡ suc (s + (j - 1)) = omega arith in
-    rw (n, e, f, q)
-
-pub bit_yes : (b : Bool) → b ≡ true → (1 ≡ pick {A = ℕ} b 1 0) × (1 ≤ 1)
-unfolding pick
-bit_yes b e = (rw e, omega arith)
-
-pub bit_no : (b : Bool) → b ≡ false → (0 ≡ pick {A = ℕ} b 1 0) × (0 ≤ 1)
-unfolding pick
-bit_no b e = (rw e, omega arith)
-
-pub newlines_start : (t : List ℕ) (s : ℕ) → 0 ≡ newlines_in (16 - 16) t (s + 16)
-newlines_start t s = refl
+    rw (n, e, f, q, bit_is (eqb (get_or t (s + (j - 1)) 0) 10))
 
 pub newlines_done : (t : List ℕ) (s j m : ℕ) → j ≤ 0 → m ≡ newlines_in (16 - j) t (s + j) → m ≡ newlines_in 16 t s
 newlines_done t s j m h e =

@@ -16,7 +16,8 @@ use Rattle.words.specs.declared.Instruction.{Instruction}
 use Rattle.syntax.specs.Pieces.{is_hex, number_in}
 use Rattle.assembler.specs.Bytes.{byte_before}
 use Rattle.assembler.specs.Heads.{mark_of, key_of}
-use Rattle.assembler.specs.Packed.{admits, matching, Padded, is_form_in, part_in, read_in}
+use Rattle.assembler.specs.Packed.{form_table, admits, matching, Padded, is_form_in, part_in, read_in}
+use Rattle.assembler.proofs.Packed.{padded}
 
 pub admits_is : (p b : ℕ) (h : Bool) → h ≡ is_hex b → (eqb p b || (eqb p 97 && h)) || eqb p 0 ≡ admits p b
 unfolding admits
@@ -28,14 +29,14 @@ not_and : (a b : Bool) → not a || not b ≡ not (a && b)
 not_and true b = refl
 not_and false b = refl
 
-pub differs_more : (bad r : Bool) (j : ℕ) (t : List ℕ) (from : ℕ) (x : List ℕ) (at : ℕ) → bad ≡ not (matching j t from x at) →
-    r ≡ admits (get_or t (from + j) 0) (get_or x (at + j) 0) → bad || not r ≡ not (matching (j + 1) t from x at)
-differs_more bad r j t from x at e f =
-    rw (e, f, add-one j) (not_and (matching j t from x at) (admits (get_or t (from + j) 0) (get_or x (at + j) 0)))
+pub differs_more : (bad r : Bool) (j from : ℕ) (x : List ℕ) (at p : ℕ) → bad ≡ not (matching j form_table from x at) → p ≡ get_or form_table (from + j) 0 →
+    r ≡ admits p (get_or x (at + j) 0) → bad || not r ≡ not (matching (j + 1) form_table from x at)
+differs_more bad r j from x at p e g f =
+    rw (e, f, g, add-one j) (not_and (matching j form_table from x at) (admits (get_or form_table (from + j) 0) (get_or x (at + j) 0)))
 
-pub differs_done : (bad : Bool) (j n : ℕ) (t : List ℕ) (from : ℕ) (x : List ℕ) (at : ℕ) → bad ≡ not (matching j t from x at) → j ≤ n → n ≤ j →
-    bad ≡ not (matching n t from x at)
-differs_done bad j n t from x at e h k =
+pub differs_done : (bad : Bool) (j n from : ℕ) (x : List ℕ) (at : ℕ) → bad ≡ not (matching j form_table from x at) → j ≤ n → n ≤ j →
+    bad ≡ not (matching n form_table from x at)
+differs_done bad j n from x at e h k =
     let q : j ≡ n = omega arith in
     rw q at e
 
@@ -43,7 +44,7 @@ not_not : (a : Bool) → not (not a) ≡ a
 not_not true = refl
 not_not false = refl
 
-pub matches_is : (bad : Bool) (n : ℕ) (t : List ℕ) (from : ℕ) (x : List ℕ) (at : ℕ) → bad ≡ not (matching n t from x at) → not bad ≡ matching n t from x at
+matches_is : (bad : Bool) (n : ℕ) (t : List ℕ) (from : ℕ) (x : List ℕ) (at : ℕ) → bad ≡ not (matching n t from x at) → not bad ≡ matching n t from x at
 matches_is bad n t from x at e = rw e (not_not (matching n t from x at))
 
 -- bytes behind the end are not looked at
@@ -62,7 +63,7 @@ padded_from (suc m) n t from x at p h =
     rw (add-suc n m, admits_rest (get_or t (from + (n + m)) 0) (get_or x (at + (n + m)) 0) (p (n + m) (omega arith) (omega arith)))
     (and-true (matching (n + m) t from x at) ∙ padded_from m n t from x at p (omega arith))
 
-pub matches_wide : (bad : Bool) (n : ℕ) (t : List ℕ) (from : ℕ) (x : List ℕ) (at : ℕ) → Padded t from n → n ≤ 16 → bad ≡ not (matching 16 t from x at) →
+matches_wide : (bad : Bool) (n : ℕ) (t : List ℕ) (from : ℕ) (x : List ℕ) (at : ℕ) → Padded t from n → n ≤ 16 → bad ≡ not (matching 16 t from x at) →
     not bad ≡ matching n t from x at
 matches_wide bad n t from x at p h e =
     let q : n + (16 - n) ≡ 16 = omega arith in
@@ -70,13 +71,20 @@ matches_wide bad n t from x at p h e =
 
 -- a form
 
-pub form_then : (t : List ℕ) (q : ℕ) (x : List ℕ) (at n m : ℕ) (r : Bool) → m ≡ get_or t (32 * q + 16) 0 → m ≡ n → r ≡ matching n t (32 * q) x at → r ≡ is_form_in t q x at n
-unfolding is_form_in
-form_then t q x at n m r e h f = rw (← e, eq-eqb m n h, f)
+module _ (q : ℕ) (x : List ℕ) (at n m : ℕ) (long : m ≡ get_or form_table (32 * q + 16) 0) where
+  pub form_narrow : (bad : Bool) → m ≡ n → bad ≡ not (matching n form_table (32 * q) x at) → not bad ≡ is_form_in form_table q x at n
+  unfolding is_form_in
+  form_narrow bad h e = rw (eq-eqb (get_or form_table (32 * q + 16) 0) n (sym long ∙ h)) (matches_is bad n form_table (32 * q) x at e)
 
-pub form_else : (t : List ℕ) (q : ℕ) (x : List ℕ) (at n m : ℕ) → m ≡ get_or t (32 * q + 16) 0 → (m ≡ n → ⊥) → false ≡ is_form_in t q x at n
-unfolding is_form_in
-form_else t q x at n m e h = rw (← e, ne_eqb m n h)
+  pub form_wide : (bad : Bool) → q < 186 → n ≤ 16 → m ≡ n → bad ≡ not (matching 16 form_table (32 * q) x at) → not bad ≡ is_form_in form_table q x at n
+  unfolding is_form_in
+  form_wide bad k s h e =
+      let l : get_or form_table (32 * q + 16) 0 ≡ n = sym long ∙ h in
+      rw (eq-eqb (get_or form_table (32 * q + 16) 0) n l) (matches_wide bad n form_table (32 * q) x at (padded q n k l) s e)
+
+  pub form_else : (m ≡ n → ⊥) → false ≡ is_form_in form_table q x at n
+  unfolding is_form_in
+  form_else h = rw (ne_eqb (get_or form_table (32 * q + 16) 0) n (λ e. h (long ∙ e)))
 
 -- digits
 
@@ -95,17 +103,16 @@ number_done j w at l m h k e =
     let q : j ≡ w = omega arith in
     rw q at e
 
-pub part_is : (t : List ℕ) (k : ℕ) (x : List ℕ) (at place width r : ℕ) → place ≡ get_or t k 0 → width ≡ get_or t (k + 1) 0 →
-    r ≡ number_in width (drop (at + place) x) → r ≡ part_in t k (drop at x)
+pub part_is : (k : ℕ) (x : List ℕ) (at place width r : ℕ) → place ≡ get_or form_table k 0 → width ≡ get_or form_table (k + 1) 0 →
+    r ≡ number_in width (drop (at + place) x) → r ≡ part_in form_table k (drop at x)
 unfolding part_in
-part_is t k x at place width r e f g =
-    g ∙ rw (← e, ← f, drop-drop place at x)
+part_is k x at place width r e f g = g ∙ rw (e, f, drop-drop (get_or form_table k 0) at x)
 
-pub read_is : (t : List ℕ) (q : ℕ) (l : List ℕ) (a b c d e f : ℕ) → a ≡ get_or t (32 * q + 17) 0 → b ≡ get_or t (32 * q + 18) 0 → c ≡ get_or t (32 * q + 19) 0 →
-    d ≡ part_in t (32 * q + 20) l → e ≡ part_in t (32 * q + 22) l → f ≡ part_in t (32 * q + 24) l →
-    ◌≡◌ {A = Instruction} (record { row = a; flag = b; destination = d; source = e; number = c; value = f }) (read_in t q l)
+pub read_is : (q : ℕ) (l : List ℕ) (a b c d e f : ℕ) → a ≡ get_or form_table (32 * q + 17) 0 → b ≡ get_or form_table (32 * q + 18) 0 →
+    c ≡ get_or form_table (32 * q + 19) 0 → d ≡ part_in form_table (32 * q + 20) l → e ≡ part_in form_table (32 * q + 22) l → f ≡ part_in form_table (32 * q + 24) l →
+    ◌≡◌ {A = Instruction} (record { row = a; flag = b; destination = d; source = e; number = c; value = f }) (read_in form_table q l)
 unfolding read_in
-read_is t q l a b c d e f p1 p2 p3 p4 p5 p6 = rw (p1, p2, p3, p4, p5, p6)
+read_is q l a b c d e f p1 p2 p3 p4 p5 p6 = rw (p1, p2, p3, p4, p5, p6)
 
 -- keys
 

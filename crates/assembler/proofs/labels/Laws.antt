@@ -1,24 +1,30 @@
 -- Labels as numbers are told apart; the chains find what the list of entries holds; and entries answer as syntax's labels do.
 -- Assumes nothing.
 use mathlib.Core.Path.{◌≡◌, refl, ap, sym, subst, ◌∙◌}
-use mathlib.Core.Bool.{Bool, true, false, not, ◌||◌, or_assoc, or-false}
+use mathlib.Core.Bool.{Bool, true, false, ◌||◌, or_assoc, or-false}
 use mathlib.Core.List.{List, [], ◌∷◌, reverse_aux, reverse, reverse-reverse}
-use Prim.Native.Nat.{ℕ, zero, suc, ◌+◌, ◌-◌, ◌*◌, ◌%◌, ◌^◌, ◌<◌, ◌≤◌}
-use native.Mathlib.Nat.{pow-suc, pow-le-pow_right}
+use Prim.Native.Nat.{ℕ, zero, suc, ◌+◌, ◌-◌, ◌*◌, ◌%◌, ◌^◌, ◌<◌, ◌≤◌, min}
+use native.Mathlib.Nat.{pow-suc, pow-le-pow_right, le_of_suc-le-suc, not-suc-le-zero}
 use native.Mathlib.Numerals.{add-one}
 use native.Mathlib.Omega.{arith}
-use borrow.Author.Tests.{eq-eqb, ne_eqb, le-leb, lt-leb, lt-ltb, le-ltb, eqb-true, eqb-false}
-use lib.Dec.{T, eqb, leb, ltb, eqb-suc-zero, eqb→eq, eqb_refl, leb→le}
-use lib.ListN.{length, get_or, set, drop, drop_of_length-le}
+use borrow.Author.Tests.{eq-eqb, ne_eqb, le-leb, lt-leb, eqb-true, eqb-false, ltb-true, ltb-false}
+use lib.Dec.{T, eqb, leb, ltb, eqb→eq, eqb_refl, leb→le}
+use lib.ListN.{length, get_or, set, replicate, drop, drop_of_length-le}
 use lib.Seq.{drop-cons, get_or-set_same, get_or-set_other}
-use Rattle.laws.specs.Choice.{pick, pick_yes, pick_no, either, is_true, is_false, true_is}
+use Rattle.std.specs.Prelude.{Some, None, is_some}
+use Rattle.laws.specs.Choice.{pick, either, is_true, is_false}
 use Rattle.laws.specs.Test.{and_left, and_right, and_both}
 use Rattle.laws.specs.Lists.{column}
 use Rattle.syntax.specs.Pieces.{equal}
 use Rattle.syntax.proofs.Pieces.{equal_is, equal_same}
 use Rattle.syntax.specs.Lines.{is_small, letters_of, beyond, is_label}
 use Rattle.syntax.specs.Labels.{Label, label, at, address_of, known}
-use Rattle.assembler.specs.Chains.{spell, label_key, all_small, hash_of, last_in, lookup, Chained, capped, Keyed, place_of, aim, Inserted}
+use Rattle.assembler.specs.declared.labels.Entry.{Entry}
+use Rattle.assembler.specs.declared.labels.Labels.{Labels}
+use Rattle.assembler.specs.Chains.{spell, all_small, hash_of, last_in, lookup, Chained, capped, Keyed, place_of, aim}
+use Rattle.assembler.specs.Entries.{keys_of, places_of, nexts_of}
+use Rattle.assembler.specs.Keys.{label_key}
+use Rattle.assembler.specs.Tables.{Inserted}
 
 -- the letters of a line
 
@@ -28,28 +34,6 @@ letters_small [] = tt
 letters_small (b ∷ l) =
     let h = letters_small l in
     either (λ m. T (all_small m)) (is_small b) (b ∷ letters_of l) [] (λ t. and_both (is_small b) (all_small (letters_of l)) t h) (λ t. tt)
-
-pub letters_inside : (l : List ℕ) → length (letters_of l) ≤ length l
-unfolding letters_of
-letters_inside [] = omega arith
-letters_inside (b ∷ l) =
-    let h = letters_inside l in
-    either (λ m. length m ≤ suc (length l)) (is_small b) (b ∷ letters_of l) [] (λ t. omega arith) (λ t. omega arith)
-
-pub letters_at : (l : List ℕ) (j : ℕ) → j < length (letters_of l) → get_or l j 0 ≡ get_or (letters_of l) j 0
-unfolding letters_of
-letters_at [] j h = refl
-letters_at (b ∷ l) zero h =
-    either (λ (m : List ℕ). 0 < length m → b ≡ get_or m 0 0) (is_small b) (b ∷ letters_of l) [] (λ t i. refl) (λ t i. absurd (omega arith)) h
-letters_at (b ∷ l) (suc j) h =
-    either
-    (λ (m : List ℕ). suc j < length m → get_or l j 0 ≡ get_or m (suc j) 0)
-    (is_small b)
-    (b ∷ letters_of l)
-    []
-    (λ t i. letters_at l j (omega arith))
-    (λ t i. absurd (omega arith))
-    h
 
 -- spelling, one letter more
 
@@ -68,24 +52,25 @@ bound_more j x b h = rw (add-one j, pow-suc 32 j) (omega arith)
 pub bound_small : (j : ℕ) → j ≤ 12 → 32 ^ j ≤ 0x1000000000000000
 bound_small j h = pow-le-pow_right {n = 32} (omega arith) {i = j} {j = 12} h
 
-pub key_long : (s : List ℕ) (n : ℕ) → n ≡ length s → 12 < n → 0 ≡ label_key s
+pub key_long : (s : List ℕ) → 12 < length s → None ≡ label_key s
 unfolding label_key is_label pick
-key_long s n e h = rw (lt-leb (length s) 12 (omega arith))
+key_long s h = rw (lt-leb (length s) 12 h)
 
-key_spelled : (s : List ℕ) (n x j : ℕ) (y : Bool) → n ≡ length s → n ≤ 12 → n ≤ j → spell 0 s ≡ spell x (drop j s) → beyond s ≡ (y || beyond (drop j s)) →
-    pick y x 0 ≡ label_key s
-unfolding label_key is_label beyond
-key_spelled s n x j y e h k p q =
-    let z : drop j s ≡ [] = drop_of_length-le s {i = j} (omega arith) in
-    rw (le-leb (length s) 12 (omega arith), (rw z at q) ∙ or-false y, rw z at p)
+key_spelled : (s : List ℕ) (x : ℕ) (y : Bool) → length s ≤ 12 → spell 0 s ≡ x → beyond s ≡ y → pick y (Some x) None ≡ label_key s
+unfolding label_key is_label
+key_spelled s x y h p q = rw (le-leb (length s) 12 h, q, p)
 
-pub key_yes : (s : List ℕ) (n x j : ℕ) (y : Bool) → n ≡ length s → n ≤ 12 → n ≤ j → spell 0 s ≡ spell x (drop j s) → beyond s ≡ (y || beyond (drop j s)) → y ≡ true →
-    x ≡ label_key s
-key_yes s n x j y e h k p q u = sym (pick_yes y x 0 (true_is y u)) ∙ key_spelled s n x j y e h k p q
+module _ (s : List ℕ) (x j : ℕ) (y : Bool) (h : length s ≤ 12) (k : length s ≤ j) (p : spell 0 s ≡ spell x (drop j s)) (q : beyond s ≡ (y || beyond (drop j s))) where
+  done : drop j s ≡ []
+  done = drop_of_length-le s {i = j} k
 
-pub key_no : (s : List ℕ) (n x j : ℕ) (y : Bool) → n ≡ length s → n ≤ 12 → n ≤ j → spell 0 s ≡ spell x (drop j s) → beyond s ≡ (y || beyond (drop j s)) → y ≡ false →
-    0 ≡ label_key s
-key_no s n x j y e h k p q u = sym (pick_no y x 0 (λ t. rw u at t)) ∙ key_spelled s n x j y e h k p q
+  pub key_yes : y ≡ true → Some x ≡ label_key s
+  unfolding beyond pick
+  key_yes u = rw u at (key_spelled s x y h (rw done at p) ((rw done at q) ∙ or-false y))
+
+  pub key_no : y ≡ false → None ≡ label_key s
+  unfolding beyond pick
+  key_no u = rw u at (key_spelled s x y h (rw done at p) ((rw done at q) ∙ or-false y))
 
 -- the table: chains find the last entry of a number
 
@@ -112,15 +97,9 @@ lookup_other : (keys : List ℕ) (m x : ℕ) → (get_or keys m 0 ≡ x → ⊥)
 unfolding pick
 lookup_other keys m x n = rw (ne_eqb (get_or keys m 0) x n)
 
-lookup_here : (keys : List ℕ) (m x : ℕ) → get_or keys m 0 ≡ x → lookup keys (suc m) x ≡ suc m
+lookup_here : (keys : List ℕ) (m x : ℕ) → get_or keys m 0 ≡ x → lookup keys (suc m) x ≡ Some m
 unfolding pick
 lookup_here keys m x e = rw (eq-eqb (get_or keys m 0) x e)
-
-pub lookup_le : (keys : List ℕ) (m x : ℕ) → lookup keys m x ≤ m
-lookup_le keys zero x = omega arith
-lookup_le keys (suc m) x =
-    let i = lookup_le keys m x in
-    either (λ (z : ℕ). z ≤ suc m) (eqb (get_or keys m 0) x) (suc m) (lookup keys m x) (λ t. omega arith) (λ t. omega arith)
 
 -- so are entries of another hash
 lookup_last : (keys : List ℕ) (m x : ℕ) → lookup keys m x ≡ lookup keys (last_in keys m (hash_of x)) x
@@ -166,35 +145,22 @@ sought_next heads nexts keys n x (suc k) b m c s h e d q =
     let v = last_in_le keys k (hash_of x) in
     (sought_last keys n x k m (omega arith) (s.left ∙ lookup_other keys k x (λ y. d ((rw z at e) ∙ y))) u, omega arith)
 
-pub sought_found : (keys : List ℕ) (n x k b : ℕ) → Sought keys n x k → 0 < k → b ≡ get_or keys (k - 1) 0 → b ≡ x → k - 1 + 1 ≡ lookup keys n x
+pub sought_found : (keys : List ℕ) (n x k b : ℕ) → Sought keys n x k → 0 < k → b ≡ get_or keys (k - 1) 0 → b ≡ x → Some (k - 1) ≡ lookup keys n x
 sought_found keys n x zero b s h e d = absurd (omega arith)
 sought_found keys n x (suc k) b s h e d =
     let z : suc k - 1 ≡ k = omega arith in
-    let u : suc k - 1 + 1 ≡ suc k = omega arith in
-    u ∙ sym (s.left ∙ lookup_here keys k x (sym (rw z at e) ∙ d))
+    ap Some z ∙ sym (s.left ∙ lookup_here keys k x (sym (rw z at e) ∙ d))
 
-pub sought_none : (keys : List ℕ) (n x k : ℕ) → Sought keys n x k → k ≡ 0 → 0 ≡ lookup keys n x
+pub sought_none : (keys : List ℕ) (n x k : ℕ) → Sought keys n x k → k ≡ 0 → None ≡ lookup keys n x
 sought_none keys n x k s e = sym (s.left ∙ rw e)
 
-pub place_none : (places : List ℕ) (r k : ℕ) → r ≡ k → r ≡ 0 → 0xffffffff ≡ place_of places k
-unfolding place_of pick
-place_none places r k e z = rw (eq-eqb k 0 (sym e ∙ z))
-
-pub place_some : (places : List ℕ) (r k : ℕ) → r ≡ k → (r ≡ 0 → ⊥) → get_or places (r - 1) 0 ≡ place_of places k
-unfolding place_of pick
-place_some places r k e z = rw (← e, ne_eqb r 0 z)
-
-pub capped_near : (a : ℕ) → a < 0x800000 → a ≡ capped a
+pub capped_is : (a r : ℕ) → r ≡ min a 0x800000 → r ≡ capped a
 unfolding capped pick
-capped_near a h = rw (lt-ltb a 0x800000 h)
-
-pub capped_far : (a : ℕ) → 0x800000 ≤ a → 0x800000 ≡ capped a
-unfolding capped pick
-capped_far a h = rw (le-ltb a 0x800000 h)
-
-pub inserted : (heads nexts keys places : List ℕ) (n x a h p : ℕ) → h ≡ hash_of x → p ≡ capped a →
-    Inserted heads nexts keys places n x a (set heads h (n + 1)) (set nexts n (get_or heads h 0)) (set keys n x) (set places n p)
-inserted heads nexts keys places n x a h p e q = record { heads_set = rw (e, add-one n); nexts_set = rw e; keys_set = refl; places_set = rw q }
+capped_is a r e = e ∙ go (ltb a 0x800000) refl
+  where
+    go : (y : Bool) → ltb a 0x800000 ≡ y → min a 0x800000 ≡ pick y a 0x800000
+    go true u = let h = ltb-true a 0x800000 u in omega arith
+    go false u = let h = ltb-false a 0x800000 u in omega arith
 
 -- labels as numbers: told apart, and never 0
 
@@ -247,36 +213,41 @@ spell_equal s t h k = go (eqb (spell 0 s) (spell 0 t)) refl
     go false u =
         u ∙ sym (is_false (equal s t) λ m. eqb-false (spell 0 s) (spell 0 t) u (ap (spell 0) (equal_is s t m)))
 
-spell_least : (a : ℕ) (s : List ℕ) → a ≤ spell a s
-spell_least a [] = omega arith
-spell_least a (b ∷ s) = let h = spell_least (32 * a + b % 32) s in omega arith
+-- columns of entries
 
-pub key_none : (s : List ℕ) → is_label s ≡ false → label_key s ≡ 0
-unfolding label_key pick
-key_none s e = rw e
+pub column_length : (f : Entry → ℕ) (l : List Entry) → length (column f l) ≡ length l
+column_length f [] = refl
+column_length f (e ∷ l) = ap suc (column_length f l)
 
-pub key_some : (s : List ℕ) → is_label s ≡ true → label_key s ≡ spell 0 s
-unfolding label_key pick
-key_some s e = rw e
+pub column_set : (f : Entry → ℕ) (l : List Entry) (n : ℕ) (e : Entry) → column f (set l n e) ≡ set (column f l) n (f e)
+column_set f [] n e = refl
+column_set f (x ∷ l) zero e = refl
+column_set f (x ∷ l) (suc n) e = ap (λ (m : List ℕ). f x ∷ m) (column_set f l n e)
 
-pub spell_positive : (s : List ℕ) → T (is_label s) → T (all_small s) → 0 < spell 0 s
-unfolding is_label beyond
-spell_positive [] h k = absurd h
-spell_positive (b ∷ s) h k =
-    let r = small_range b (and_left (is_small b) (all_small s) k) in
-    let m = spell_least (32 * 0 + b % 32) s in
-    omega arith
+pub column_get : (f : Entry → ℕ) (l : List Entry) (n : ℕ) (d : Entry) → n < length l → f (get_or l n d) ≡ get_or (column f l) n 0
+column_get f [] n d h = absurd (not-suc-le-zero h)
+column_get f (x ∷ l) zero d h = refl
+column_get f (x ∷ l) (suc n) d h = column_get f l n d (le_of_suc-le-suc h)
 
-pub key_test : (s : List ℕ) → T (all_small s) → eqb (label_key s) 0 ≡ not (is_label s)
-key_test s k = go (is_label s) refl
-  where
-    go : (y : Bool) → is_label s ≡ y → eqb (label_key s) 0 ≡ not (is_label s)
-    go true u =
-        let p = spell_positive s (true_is (is_label s) u) k in
-        ne_eqb (label_key s) 0 (λ e. let v = key_some s u in omega arith) ∙ sym (ap not u)
-    go false u = eq-eqb (label_key s) 0 (key_none s u) ∙ sym (ap not u)
+module _ (heads : List ℕ) (entries : List Entry) (n x k : ℕ) (d : Entry) (s : Sought (keys_of entries) n x k) (h : 0 < k) (l : n ≤ length entries) where
+  entry-inside : k - 1 < length entries
+  entry-inside = let i = s.inside in omega arith
+
+  pub entry_found : (get_or entries (k - 1) d).key ≡ x → Some (k - 1) ≡ lookup (keys_of entries) n x
+  entry_found e = sought_found (keys_of entries) n x k _ s h (column_get (λ e. e.key) entries (k - 1) d entry-inside) e
+
+  pub entry_next : Chained heads (nexts_of entries) (keys_of entries) n → ((get_or entries (k - 1) d).key ≡ x → ⊥) →
+      Sought (keys_of entries) n x (get_or entries (k - 1) d).next × ((get_or entries (k - 1) d).next < k)
+  entry_next c e =
+      sought_next heads (nexts_of entries) (keys_of entries) n x k _ _ c s h (column_get (λ e. e.key) entries (k - 1) d entry-inside) e
+      (column_get (λ e. e.next) entries (k - 1) d entry-inside)
 
 -- the table, empty and with one entry more
+
+pub all_zero : (n h : ℕ) → get_or {A = ℕ} (replicate n 0) h 0 ≡ 0
+all_zero zero h = refl
+all_zero (suc n) zero = refl
+all_zero (suc n) (suc h) = all_zero n h
 
 pub chained_none : (heads nexts keys : List ℕ) → ((h : ℕ) → h < 1024 → get_or heads h 0 ≡ 0) → Chained heads nexts keys 0
 chained_none heads nexts keys f = record { head = f; next = λ j h. absurd (omega arith) }
@@ -310,14 +281,37 @@ chain_next heads nexts keys n x j c l k i = go (eqb j n) refl
         (get_or-set_other nexts n j (get_or heads (hash_of x) 0) 0 d, get_or-set_other keys n j x 0 d, last_in_set keys n x j (hash_of (get_or keys j 0)) (omega arith))
         (c.next j (omega arith))
 
-pub chained_insert : {heads nexts keys places : List ℕ} {n x a : ℕ} {heads' nexts' keys' places' : List ℕ} → Chained heads nexts keys n → n < 1024 →
-    length heads ≡ 1024 → length nexts ≡ 1024 → length keys ≡ 1024 → Inserted heads nexts keys places n x a heads' nexts' keys' places' →
-    Chained heads' nexts' keys' (suc n)
-chained_insert {heads} {nexts} {keys} {places} {n} {x} c h lh ln lk i =
-    rw (i.heads_set, i.nexts_set, i.keys_set) (record {
-      head = λ m k. chain_head heads keys n x m lh (omega arith) k (c.head m k);
-      next = λ j k. chain_next heads nexts keys n x j c (omega arith) (omega arith) k;
+-- with the lists of one entry more
+pub chained_insert : (heads nexts keys : List ℕ) (n x h m : ℕ) → Chained heads nexts keys n → length heads ≡ 1024 → n < length nexts → n < length keys →
+    h ≡ hash_of x → m ≡ suc n → Chained (set heads h m) (set nexts n (get_or heads h 0)) (set keys n x) m
+chained_insert heads nexts keys n x h m c lh ln lk e q =
+    rw (e, q) (record {
+      head = λ g k. chain_head heads keys n x g lh lk k (c.head g k);
+      next = λ j k. chain_next heads nexts keys n x j c ln lk k;
     })
+
+pub chained_entry : (heads : List ℕ) (entries : List Entry) (n x h p : ℕ) → Chained heads (nexts_of entries) (keys_of entries) n → length heads ≡ 1024 →
+    n < length entries → h ≡ hash_of x →
+    Chained (set heads h (n + 1)) (nexts_of (set entries n (record { key = x; place = p; next = get_or heads h 0 })))
+    (keys_of (set entries n (record { key = x; place = p; next = get_or heads h 0 }))) (n + 1)
+chained_entry heads entries n x h p c lh le e =
+    rw (
+      column_set (λ e. e.next) entries n (record { key = x; place = p; next = get_or heads h 0 }),
+      column_set (λ e. e.key) entries n (record { key = x; place = p; next = get_or heads h 0 }),
+    )
+    (chained_insert heads (nexts_of entries) (keys_of entries) n x h (n + 1) c lh (rw column_length le) (rw column_length le) e (omega arith))
+
+pub inserted : (t t' : Labels) (x a p next : ℕ) → t'.count ≡ t.count + 1 → t'.entries ≡ set t.entries t.count (record { key = x; place = p; next = next }) →
+    p ≡ capped a → t.count < length t.entries → Inserted t x a t'
+inserted t t' x a p next e f q h =
+    record {
+      inside = h;
+      counted = omega (arith, e);
+      keys_set = ap keys_of f ∙ column_set (λ e. e.key) t.entries t.count (record { key = x; place = p; next = next });
+      places_set =
+          ap places_of f ∙ column_set (λ e. e.place) t.entries t.count (record { key = x; place = p; next = next }) ∙
+          ap (set (places_of t.entries) t.count) q;
+    }
 
 -- the entries are syntax's labels
 
@@ -327,31 +321,38 @@ keyed_set keys places n x a (l ∷ ls) h k =
     let d : length ls ≡ n → ⊥ = λ e. omega (arith, e) in
     (k.0, k.1, get_or-set_other keys n (length ls) x 0 d ∙ k.2, get_or-set_other places n (length ls) a 0 d ∙ k.3, keyed_set keys places n x a ls (omega arith) k.4)
 
-pub keyed_insert : {heads nexts keys places : List ℕ} {n x a : ℕ} {heads' nexts' keys' places' : List ℕ} (seen : List Label) (s : List ℕ) →
-    Keyed keys places seen → n ≡ length seen → n < 1024 → length keys ≡ 1024 → length places ≡ 1024 → Inserted heads nexts keys places n x a heads' nexts' keys' places' →
-    x ≡ spell 0 s → T (is_label s) → T (all_small s) → Keyed keys' places' (label s a ∷ seen)
-keyed_insert {heads} {nexts} {keys} {places} {n} {x} {a} {keys' = keys'} {places' = places'} seen s k e h lk lp i q t u =
-    let older : Keyed keys' places' seen =
-    subst (λ ks. Keyed ks places' seen) (sym i.keys_set)
+pub keyed_insert : (t t' : Labels) (x a : ℕ) (seen : List Label) (s : List ℕ) → Keyed (keys_of t.entries) (places_of t.entries) seen → t.count ≡ length seen →
+    Inserted t x a t' → x ≡ spell 0 s → T (is_label s) → T (all_small s) →
+    Keyed (keys_of t'.entries) (places_of t'.entries) (label s a ∷ seen)
+keyed_insert t t' x a seen s k e i q u v =
+    let n = t.count in
+    let keys = keys_of t.entries in
+    let places = places_of t.entries in
+    let older : Keyed (keys_of t'.entries) (places_of t'.entries) seen =
+    subst (λ ks. Keyed ks (places_of t'.entries) seen) (sym i.keys_set)
     (subst (λ ps. Keyed (set keys n x) ps seen) (sym i.places_set) (keyed_set keys places n x (capped a) seen (omega arith) k)) in
-    rw (i.keys_set, i.places_set, ← e) (t, u, get_or-set_same keys n x 0 (omega arith) ∙ q, get_or-set_same places n (capped a) 0 (omega arith), older)
-
-place_entry : (places : List ℕ) (n : ℕ) → place_of places (suc n) ≡ get_or places n 0
-unfolding place_of pick
-place_entry places n = let e : suc n - 1 ≡ n = omega arith in rw (eqb-suc-zero n, e)
+    let lk : n < length keys = rw column_length i.inside in
+    let lp : n < length places = rw column_length i.inside in (
+      u,
+      v,
+      ap (λ (ks : List ℕ). get_or ks (length seen) 0) i.keys_set ∙ ap (λ (j : ℕ). get_or (set keys n x) j 0) (sym e) ∙ get_or-set_same keys n x 0 lk ∙ q,
+      ap (λ (ps : List ℕ). get_or ps (length seen) 0) i.places_set ∙ ap (λ (j : ℕ). get_or (set places n (capped a)) j 0) (sym e) ∙
+          get_or-set_same places n (capped a) 0 lp,
+      older,
+    )
 
 -- one label more: found there, or as before
 pub keyed_address : (keys places : List ℕ) (seen : List Label) (s : List ℕ) → Keyed keys places seen → T (all_small s) →
     place_of places (lookup keys (length seen) (spell 0 s)) ≡ aim (address_of seen s)
-unfolding place_of address_of pick
+unfolding address_of pick
 keyed_address keys places [] s k t = refl
 keyed_address keys places (l ∷ ls) s k t =
     let m = keyed_address keys places ls s k.4 t in
     rw (k.2, spell_equal l.name s k.1 t) (go (equal l.name s) m)
   where
     go : (y : Bool) → place_of places (lookup keys (length ls) (spell 0 s)) ≡ aim (address_of ls s) →
-        place_of places (pick y (suc (length ls)) (lookup keys (length ls) (spell 0 s))) ≡ aim (pick y (at l.address) (address_of ls s))
-    go true m = place_entry places (length ls) ∙ k.3
+        place_of places (pick y (Some (length ls)) (lookup keys (length ls) (spell 0 s))) ≡ aim (pick y (at l.address) (address_of ls s))
+    go true m = ap Some k.3
     go false m = m
 
 -- whether a name is among those seen
@@ -359,14 +360,14 @@ abbrev pub names_of : List Label → List (List ℕ)
 names_of seen = column (λ (x : Label). x.name) seen
 
 pub keyed_known : (keys places : List ℕ) (seen : List Label) (s : List ℕ) → Keyed keys places seen → T (all_small s) →
-    eqb (lookup keys (length seen) (spell 0 s)) 0 ≡ not (known (names_of seen) s)
+    is_some (lookup keys (length seen) (spell 0 s)) ≡ known (names_of seen) s
 unfolding pick
 keyed_known keys places [] s k t = refl
 keyed_known keys places (l ∷ ls) s k t =
     let m = keyed_known keys places ls s k.4 t in
     rw (k.2, spell_equal l.name s k.1 t) (go (equal l.name s) m)
   where
-    go : (y : Bool) → eqb (lookup keys (length ls) (spell 0 s)) 0 ≡ not (known (names_of ls) s) →
-        eqb (pick y (suc (length ls)) (lookup keys (length ls) (spell 0 s))) 0 ≡ not (y || known (names_of ls) s)
-    go true m = eqb-suc-zero (length ls)
+    go : (y : Bool) → is_some (lookup keys (length ls) (spell 0 s)) ≡ known (names_of ls) s →
+        is_some (pick y (Some (length ls)) (lookup keys (length ls) (spell 0 s))) ≡ y || known (names_of ls) s
+    go true m = refl
     go false m = m

@@ -1,18 +1,22 @@
 -- The whole call.
 -- Assumes nothing.
-use Prim.Native.Nat.{ℕ, zero, suc}
-use mathlib.Core.Bool.{Bool, true, false, not}
-use mathlib.Core.Path.{◌≡◌, refl, ap, sym, ◌∙◌}
+use Prim.Native.Nat.{ℕ}
+use mathlib.Core.Bool.{true, false}
+use mathlib.Core.Path.{◌≡◌, refl, ap, sym, subst, ◌∙◌}
 use mathlib.Core.List.{List, [], ◌∷◌}
 use native.Mathlib.Omega.{arith}
-use borrow.Author.Tests.{ne_eqb, not-true, not-false}
+use borrow.Author.Tests.{ne_eqb}
 use lib.Dec.{eqb}
-use lib.ListN.{length, get_or, replicate}
+use lib.ListN.{length}
 use lib.Seq.{sets}
-use Rattle.laws.specs.Choice.{pick, true_is}
-use Rattle.laws.specs.Test.{test, Holds, holds}
+use Rattle.std.specs.Option.{ok_or}
+use Rattle.std.specs.Prelude.{◌↔◌, Option, Some, is_some, IsNone, IfSome, Result, Ok, Err}
+use Rattle.std.specs.Result.{IsErrAnd}
+use Rattle.laws.specs.Choice.{pick}
+use Rattle.laws.specs.Test.{test}
 use Rattle.laws.specs.First.{first_failing}
 use Rattle.words.specs.declared.Config.{Config}
+use Rattle.words.specs.declared.writer.Writer.{Writer}
 use Rattle.words.specs.Configs.{lawful}
 use Rattle.syntax.specs.Lines.{lines_of}
 use Rattle.syntax.specs.Labels.{gathered, repeats}
@@ -22,17 +26,30 @@ use Rattle.syntax.proofs.Sources.{listed_back}
 use Rattle.syntax.proofs.Unlabelled.{assembled_back}
 use Rattle.syntax.proofs.Labels.{labels_mean}
 use Rattle.syntax.proofs.Resolved.{labels_resolved}
-use Rattle.assembler.specs.declared.Assembled.{Assembled}
-use Rattle.assembler.specs.Answers.{assembled_of, assemble_call}
+use Rattle.assembler.specs.declared.errors.AssembleError.{AssembleError}
+use Rattle.assembler.specs.declared.errors.AssembleError.TheVariants.{Unlawful, TooMany, DoubledLabel, BadLine}
+use Rattle.assembler.specs.declared.labels.Labels.{Labels}
+use Rattle.assembler.specs.Answers.{count_of, assemble_call}
 use Rattle.assembler.specs.Claims.{Assembles}
+use Rattle.assembler.specs.Errors.{error_number, number_of, line_of}
 use Rattle.assembler.specs.Gathering.{gather_number, Gathers}
-use Rattle.assembler.specs.Passing.{words_of, Passes, Finishes}
-use Rattle.assembler.proofs.lines.Laws.{words_none}
+use Rattle.assembler.specs.Passing.{words_of, Passes}
+use Rattle.assembler.proofs.lines.Laws.{line_never, words_none}
+use Rattle.assembler.proofs.writing.Laws.{err_is, missing}
 
-assembles : (c : Config) (text words : List ℕ) (r : Assembled) (after : List ℕ) → assembled_of r after ≡ assemble_call c text words → Assembles c text words r after
-assembles c text words r after e =
+-- a refusal has a number
+never : (e : AssembleError) → error_number e ≡ 0 → ⊥
+never Unlawful z = omega arith
+never TooMany z = omega arith
+never (DoubledLabel k) z = omega arith
+never (BadLine k x) z = line_never x z
+
+made : (c : Config) (text words : List ℕ) (r : Result ℕ AssembleError) (after : List ℕ) (a : Assembly) → assemble_of c text (length words) ≡ a →
+    number_of r ≡ a.number → line_of r ≡ a.line → count_of r ≡ length a.words → after ≡ sets words 0 a.words → Assembles c text words r after
+unfolding assemble_call
+made c text words r after a e x y z v =
     record {
-      answer = e;
+      answer = rw (e, x, y, z, v);
       print_read = print_then_read;
       read_print = read_then_print;
       unread_none = unread_none;
@@ -42,67 +59,59 @@ assembles c text words r after e =
       labels_resolved = labels_resolved;
     }
 
-made : (c : Config) (text words : List ℕ) (r : Assembled) (after : List ℕ) (a : Assembly) → assemble_of c text (length words) ≡ a → r.number ≡ a.number →
-    r.line ≡ a.line → r.count ≡ length a.words → after ≡ sets words 0 a.words → Assembles c text words r after
-unfolding assemble_call
-made c text words r after a e x y z v = assembles c text words r after (rw (e, x, y, z, v))
+-- a refusal is handed on as it is
+pub handed_on : (c : Config) (text words : List ℕ) (r : Result ℕ AssembleError) (e : AssembleError) → IsErrAnd r (λ x. x ≡ e) → Assembles c text words (Err e) words →
+    Assembles c text words r words
+handed_on c text words r e h a = rw (err_is r e h) a
 
--- the two passes
+-- an unlawful configuration has no writer
+pub no_writer : (c : Config) (w : Option Writer) (x e : AssembleError) → IsNone w ↔ (test (lawful c) ≡ false) → Err x ≡ ok_or w e → (test (lawful c) ≡ false) × (x ≡ e)
+no_writer c w x e i q = let m = missing w x e q in (i.0 (ap is_some m.0), m.1)
 
-none : (ws : List ℕ) → length ws ≡ 0 → ws ≡ []
-none [] q = refl
-none (w ∷ ws) q = absurd (omega arith)
-
-pub first_bad : (c : Config) (text words : List ℕ) (r : Assembled) (after : List ℕ) → Passes c text words false r after → (r.number ≡ 0 → ⊥) →
-    Finishes c text words r after
-first_bad c text words r after p n =
-    let e = none (words_of c text).words (words_none c (gathered [] 0 (lines_of text)) (lines_of text) 1 (λ q. n (p.number ∙ q))) in
-    record { number = p.number; line = p.line; count = p.count; written = p.kept refl ∙ sym (ap (sets words 0) e) }
-
-pub both_good : (c : Config) (text words : List ℕ) (checked r : Assembled) (between after : List ℕ) → Passes c text words false checked between →
-    checked.number ≡ 0 → Passes c text between true r after → Finishes c text words r after
-both_good c text words checked r between after p q t =
-    record {
-      number = t.number;
-      line = t.line;
-      count = t.count;
-      written = t.written refl (t.number ∙ sym p.number ∙ q) ∙ ap (λ (x : List ℕ). sets x 0 (words_of c text).words) (p.kept refl);
-    }
+pub its_config : (c : Config) (w : Option Writer) (x : Writer) → IfSome w (λ y. y.config ≡ c) → w ≡ Some x → x.config ≡ c
+its_config c w x h e = subst (λ (w : Option Writer). IfSome w (λ y. y.config ≡ c)) e h
 
 -- 1, and then 36 and 24
-
-pub all_zero : (n h : ℕ) → get_or {A = ℕ} (replicate n 0) h 0 ≡ 0
-all_zero zero h = refl
-all_zero (suc n) zero = refl
-all_zero (suc n) (suc h) = all_zero n h
 
 numbers : (c : Config) (ls : List (List ℕ)) (room : ℕ) → test (lawful c) ≡ true → first_failing (source_refusals c ls room (repeats [] 1 ls)) ≡ gather_number ls room
 unfolding source_refusals gather_number pick
 numbers c ls room e = rw e
 
-pub unlawful : (c : Config) (text words : List ℕ) (r : Assembled) (b : Bool) → b ≡ test (lawful c) → not b ≡ true → r.number ≡ 1 → r.line ≡ 0 → r.count ≡ 0 →
-    Assembles c text words r words
+pub unlawful : (c : Config) (text words : List ℕ) → test (lawful c) ≡ false → Assembles c text words (Err Unlawful) words
 unfolding assemble_of source_refusals pick
-unlawful c text words r b e h x y z = made c text words r words (refused 1 0) (rw (sym e ∙ not-true b h)) x y z refl
+unlawful c text words h = made c text words (Err Unlawful) words (refused 1 0) (rw h) refl refl refl refl
 
-pub lawful_is : (c : Config) (b : Bool) → b ≡ test (lawful c) → not b ≡ false → Holds (lawful c)
-lawful_is c b e h = holds (lawful c) (true_is (test (lawful c)) (sym e ∙ not-false b h))
+module _ (c : Config) (text words : List ℕ) (lawfully : test (lawful c) ≡ true) (g : Result (Unit {0}) AssembleError) (t : Labels)
+    (gathers : Gathers text (length words) g t) where
+  number_is : first_failing (source_refusals c (lines_of text) (length words) (repeats [] 1 (lines_of text))) ≡ number_of g
+  number_is = numbers c (lines_of text) (length words) lawfully ∙ sym gathers.number
 
-module _ (c : Config) (text words : List ℕ) (b : Bool) (e : b ≡ test (lawful c)) (h : not b ≡ false) (g : Assembled) (chains nexts keys places : List ℕ)
-    (gathers : Gathers text (length words) g chains nexts keys places) where
-  number_is : first_failing (source_refusals c (lines_of text) (length words) (repeats [] 1 (lines_of text))) ≡ g.number
-  number_is = numbers c (lines_of text) (length words) (sym e ∙ not-false b h) ∙ sym gathers.number
-
-  pub refused_early : (g.number ≡ 0 → ⊥) → Assembles c text words g words
+  pub refused_early : (e : AssembleError) → g ≡ Err e → Assembles c text words (Err e) words
   unfolding assemble_of pick
-  refused_early z =
-      made c text words g words (refused g.number (pick (eqb g.number 24) (repeats [] 1 (lines_of text)) 0))
-      (rw (number_is, ne_eqb g.number 0 z))
-      refl gathers.line (gathers.refused z) refl
+  refused_early e z =
+      let n : number_of g ≡ error_number e = ap number_of z in
+      made c text words (Err e) words (refused (number_of g) (pick (eqb (number_of g) 24) (repeats [] 1 (lines_of text)) 0))
+      (rw (number_is, ne_eqb (number_of g) 0 (λ q. never e (sym n ∙ q))))
+      (sym n) (sym (ap line_of z) ∙ gathers.line) refl refl
 
-  all_lines : g.number ≡ 0 → assemble_of c text (length words) ≡ words_of c text
+  all_lines : g ≡ Ok tt → assemble_of c text (length words) ≡ words_of c text
   unfolding assemble_of pick
-  all_lines z = rw (number_is, z)
+  all_lines z = rw (number_is ∙ ap number_of z)
 
-  pub finished : (r : Assembled) (after : List ℕ) → g.number ≡ 0 → Finishes c text words r after → Assembles c text words r after
-  finished r after z p = made c text words r after (words_of c text) (all_lines z) p.number p.line p.count p.written
+  -- the first pass comes to a bad line
+  pub refused_late : (p : Result ℕ AssembleError) (none after : List ℕ) (e : AssembleError) → g ≡ Ok tt → Passes c text none p after → p ≡ Err e →
+      Assembles c text words (Err e) words
+  refused_late p none after e z h y =
+      let n : error_number e ≡ (words_of c text).number = sym (ap number_of y) ∙ h.number in
+      made c text words (Err e) words (words_of c text) (all_lines z) n (sym (ap line_of y) ∙ h.line) (sym (ap count_of y) ∙ h.count)
+      (sym (ap (sets words 0) (empty (words_of c text).words (words_none c (gathered [] 0 (lines_of text)) (lines_of text) 1 (λ q. never e (n ∙ q))))))
+    where
+      empty : (ws : List ℕ) → length ws ≡ 0 → ws ≡ []
+      empty [] q = refl
+      empty (w ∷ ws) q = absurd (omega arith)
+
+  -- both passes come to the end
+  pub finished : (p r : Result ℕ AssembleError) (none between after : List ℕ) (n : ℕ) → g ≡ Ok tt → Passes c text none p between → p ≡ Ok n → Passes c text words r after →
+      Assembles c text words r after
+  finished p r none between after n z h y k =
+      made c text words r after (words_of c text) (all_lines z) k.number k.line k.count (k.written (k.number ∙ sym h.number ∙ ap number_of y))

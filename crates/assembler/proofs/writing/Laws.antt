@@ -1,30 +1,30 @@
 -- A line's word: what the code finds is what syntax's `given_by` gives.
 -- Assumes nothing.
-use Prim.Native.Nat.{ℕ, zero, suc, ◌+◌, ◌-◌, ◌*◌, ◌<◌, ◌≤◌}
+use Prim.Native.Nat.{ℕ, zero, suc, ◌+◌, ◌-◌, ◌<◌, ◌≤◌}
 use mathlib.Core.Bool.{Bool, true, false, not, ◌&&◌}
-use mathlib.Core.Path.{◌≡◌, refl, ap, sym, ◌∙◌}
+use mathlib.Core.Path.{◌≡◌, refl, ap, sym, subst, ◌∙◌}
 use mathlib.Core.List.{List, [], ◌∷◌}
 use native.Mathlib.Nat.{le_of_suc-le-suc, not-suc-le-zero}
 use native.Mathlib.Omega.{arith}
-use borrow.Author.Tests.{eqb-true, ne_eqb, ltb-true, ltb-false}
+use borrow.Author.Tests.{ne_eqb, ltb-false}
 use lib.Dec.{T, eqb, ltb, leb, T_not}
 use lib.ListN.{length, get_or, take, drop, length-drop, drop_of_length-le}
-use lib.Seq.{slice, take_all}
+use lib.Seq.{slice, take_all, length-take-le}
+use Rattle.std.specs.Option.{unwrap_or, ok_or}
+use Rattle.std.specs.Result.{IsErrAnd}
+use Rattle.std.specs.Prelude.{Option, Some, None, is_some, Result, Ok, Err}
 use Rattle.laws.specs.Choice.{pick, is_false, true_is}
 use Rattle.laws.specs.Test.{test, Holds, holds, and_left, and_right}
 use Rattle.laws.specs.First.{first_failing}
 use Rattle.words.specs.declared.Config.{Config}
 use Rattle.words.specs.declared.Instruction.{Instruction}
 use Rattle.words.specs.declared.Refusal.{Refusal}
-use Rattle.words.specs.declared.Writing.{Writing}
-use Rattle.words.specs.declared.Writing.TheVariants.{Encoded, Refused}
 use Rattle.words.specs.Configs.{lawful}
 use Rattle.words.specs.Parts.{Part, unused, flag, byte, coprocessor, register, unit, mask, immediate, read_address, write_address, target, count, bank_address, short, available}
 use Rattle.words.specs.Rows.{row_at, row_count}
-use Rattle.words.specs.Answers.{refusal_number, writing_of}
-use Rattle.words.specs.Packed.{write_lent}
+use Rattle.words.specs.Answers.{writing_of}
 use Rattle.words.specs.Words.{Written, fits, refusals567, written, word_of, write_lawful}
-use Rattle.words.proofs.Answers.{write_lent_lem}
+use Rattle.words.proofs.Statics.{lawful_here}
 use Rattle.words.proofs.Keys.{most_of}
 use Rattle.words.proofs.RoundTrip.{bounds, range_most}
 use Rattle.syntax.specs.Lines.{letters_of, beyond, is_label}
@@ -32,42 +32,66 @@ use Rattle.syntax.specs.Labels.{Label, Found, at, nowhere, address_of, name_leng
 use Rattle.syntax.specs.Reading.{Line, found, unread, read_line}
 use Rattle.syntax.specs.Assembly.{word_given}
 use Rattle.syntax.proofs.Sources.{ok_byte, clean, plain_read, no_target}
-use Rattle.assembler.specs.declared.Parsed.{Parsed}
-use Rattle.assembler.specs.declared.Parsed.TheVariants as parsed
-use Rattle.assembler.specs.declared.Parsed.TheVariants.{Unread}
+use Rattle.assembler.specs.declared.errors.LineError.{LineError}
+use Rattle.assembler.specs.declared.errors.LineError.TheVariants.{NotInForm, UnknownLabel, Refused}
+use Rattle.assembler.specs.declared.keys.Key.{Key}
+use Rattle.assembler.specs.declared.labels.Labels.{Labels}
 use Rattle.assembler.specs.Bytes.{is_beyond}
-use Rattle.assembler.specs.Packed.{line_of, Shown, read_in, Finds}
-use Rattle.assembler.specs.declared.writing.Outcome.{Outcome}
-use Rattle.assembler.specs.Chains.{spell, label_key, lookup, capped, place_of, aim}
-use Rattle.assembler.specs.Writing.{outcome_of, refusal_of, Writers, aimed_word, Worded}
+use Rattle.assembler.specs.Chains.{spell, lookup, capped, place_of, aim}
+use Rattle.assembler.specs.Entries.{keys_of, places_of}
+use Rattle.assembler.specs.Keys.{label_key, key_number}
+use Rattle.assembler.specs.Packed.{line_of}
+use Rattle.assembler.specs.Tables.{Tabled, address_of as address_in}
+use Rattle.assembler.specs.Writing.{outcome_of, Worded}
 use Rattle.assembler.specs.Zeros.{zeroed}
-use Rattle.assembler.proofs.labels.Laws.{letters_small, key_test, key_some, keyed_address}
+use Rattle.assembler.proofs.bytes.Laws.{part_line}
+use Rattle.assembler.proofs.labels.Laws.{letters_small, keyed_address}
+use Rattle.assembler.proofs.openings.Laws.{letters_inside}
 use Rattle.assembler.proofs.zeros.Laws.{length_zeroed, with_zeros}
 use Rattle.assembler.proofs.Heads.{read_long}
 use Rattle.assembler.proofs.Packed.{line_at}
 
--- what was parsed
+abbrev refusal_of : ℕ → Written
+refusal_of n = record { number = n; word = 0 }
 
-pub parsed_unread : (p : Parsed) (y : Line) → p ≡ Unread → line_of p ≡ y → y ≡ unread
-parsed_unread p y e f = sym f ∙ ap line_of e
+-- an error that is handed on
 
-pub parsed_found : (p : Parsed) (i : Instruction) (y : Line) → p ≡ parsed.Found i → line_of p ≡ y → y ≡ found i
-parsed_found p i y e f = sym f ∙ ap line_of e
+pub err_is : {A E : Type 0} (r : Result A E) (e : E) → IsErrAnd r (λ x. x ≡ e) → r ≡ Err e
+err_is (Ok n) e h = absurd h
+err_is (Err x) e h = ap Err h
+
+pub missing : {A E : Type 0} (k : Option A) (x e : E) → Err x ≡ ok_or k e → (k ≡ None) × (x ≡ e)
+missing {A = A} {E = E} None x e q = (refl, ap error_of q)
+  where
+    error_of : Result A E → E
+    error_of (Ok n) = e
+    error_of (Err x) = x
+missing {A = A} {E = E} (Some y) x e q = absurd (true_is false (sym (ap is_err q)))
+  where
+    is_err : Result A E → Bool
+    is_err (Ok n) = false
+    is_err (Err x) = true
+
+pub handed_on : (c : Config) (t : Labels) (l : List ℕ) (r : Result ℕ LineError) (x e : LineError) → IsErrAnd r (λ y. y ≡ x) → x ≡ e → Worded c t l (Err e) → Worded c t l r
+handed_on c t l r x e h q f labels k = ap outcome_of (err_is r x h ∙ ap Err q) ∙ f labels k
 
 -- writing
 
-pub wrote_it : (c : Config) (bases packs : List ℕ) (options : List Bool) (limits : List ℕ) (i : Instruction) (r : Writing) →
-    Writers c bases packs options limits → writing_of r ≡ write_lent bases packs options limits c i → writing_of r ≡ write_lawful c i
-wrote_it c bases packs options limits i r w e =
-    e ∙ write_lent_lem bases packs options limits c i w.bases_right w.packs_right w.options_right w.limits_right w.is_lawful
-
-pub encoded_is : (r : Writing) (w : ℕ) (x : Written) → r ≡ Encoded w → writing_of r ≡ x → record { number = 0; word = w } ≡ x
+pub wrote : (r : Result ℕ Refusal) (w : ℕ) (x : Written) → r ≡ Ok w → writing_of r ≡ x → outcome_of (Ok w) ≡ x
 unfolding writing_of
-encoded_is r w x e f = rw e at f
+wrote r w x e f = rw e at f
 
-pub refused_is : (r : Writing) (y : Refusal) (n m : ℕ) (x : Written) → r ≡ Refused y → n ≡ refusal_number y → m ≡ n → writing_of r ≡ x → refusal_of m ≡ x
+pub refused : (r : Result ℕ Refusal) (y : Refusal) (s : Result ℕ LineError) (x : Written) → r ≡ Err y → IsErrAnd s (λ z. z ≡ Refused y) → writing_of r ≡ x → outcome_of s ≡ x
 unfolding writing_of
-refused_is r y n m x e f g h = rw (g, f) (rw e at h)
+refused r y s x e h f = ap outcome_of (err_is s (Refused y) h) ∙ (rw e at f)
+
+-- letters stand in their line
+pub letters_fit : (l : List ℕ) (from : ℕ) (s : List ℕ) → from ≤ length l → s ≡ letters_of (take (length l - from) (drop from l)) → from + length s ≤ length l
+letters_fit l from s h e =
+    let a : length s ≡ length (letters_of (take (length l - from) (drop from l))) = ap length e in
+    let b = letters_inside (take (length l - from) (drop from l)) in
+    let d : length (take (length l - from) (drop from l)) ≡ length l - from = length-take-le (length l - from) (drop from l) (rw length-drop (omega arith)) in
+    omega (arith, a, b, d)
 
 -- a target that is out of range, wherever it is
 
@@ -128,29 +152,15 @@ capped_word c i a h = go (ltb a 0x800000) refl
     go true e = refl
     go false e = far_word c i 0x800000 a h (omega arith) (ltb-false a 0x800000 e)
 
-capped_less : (a : ℕ) → capped a ≤ 0x800000
-unfolding capped pick
-capped_less a = go (ltb a 0x800000) refl
-  where
-    go : (b : Bool) → ltb a 0x800000 ≡ b → pick b a 0x800000 ≤ 0x800000
-    go true e = let h = ltb-true a 0x800000 e in omega arith
-    go false e = omega arith
-
 -- the two cases of a label
 
-pub aimed_nowhere : (c : Config) (i : Instruction) (a : ℕ) (r : Outcome) → a ≡ 0xffffffff → (r.number ≡ 25) × (r.word ≡ 0) → outcome_of r ≡ aimed_word c i a
-unfolding aimed_word pick
-aimed_nowhere c i a r e f = rw (e, f.0, f.1)
+aimed_at : (c : Config) (i : Instruction) (x : Found) (a : ℕ) → Holds (lawful c) → Some a ≡ aim x → write_lawful c (set_target i a) ≡ word_given c (labelwise (found i) x)
+aimed_at c i nowhere a h e = absurd (true_is false (sym (ap is_some e)))
+aimed_at c i (at b) a h e = ap (λ (d : ℕ). write_lawful c (set_target i d)) (ap (λ (o : Option ℕ). unwrap_or o 0) e) ∙ capped_word c i b h
 
-pub aimed_somewhere : (c : Config) (i j : Instruction) (a : ℕ) (r : Outcome) → (a ≡ 0xffffffff → ⊥) → j ≡ set_target i a → outcome_of r ≡ write_lawful c j →
-    outcome_of r ≡ aimed_word c i a
-unfolding aimed_word pick
-aimed_somewhere c i j a r h e f = rw (ne_eqb a 0xffffffff h) (f ∙ ap (write_lawful c) e)
-
-aimed_is : (c : Config) (i : Instruction) (x : Found) → Holds (lawful c) → aimed_word c i (aim x) ≡ word_given c (labelwise (found i) x)
-unfolding aimed_word pick
-aimed_is c i nowhere h = refl
-aimed_is c i (at a) h = rw (ne_eqb (capped a) 0xffffffff (λ e. let k = capped_less a in omega (arith, k, e))) (capped_word c i a h)
+aimed_nowhere : (c : Config) (i : Instruction) (x : Found) → None ≡ aim x → refusal_of 25 ≡ word_given c (labelwise (found i) x)
+aimed_nowhere c i nowhere e = refl
+aimed_nowhere c i (at b) e = absurd (true_is false (ap is_some e))
 
 -- the target of a line
 
@@ -184,76 +194,88 @@ plain_bad c labels l u e = rw (e, u)
 
 -- a line with zeros for its label
 
-pub zeroed_size : (l : List ℕ) (from m : ℕ) → from + m ≤ length l → length l - m + 6 ≡ length (zeroed l from m)
-zeroed_size l from m h = omega (arith, length_zeroed l from m h)
-
 pub zeroed_long : (l : List ℕ) (from m : ℕ) → from + m ≤ length l → 16 < length l - m + 6 → unread ≡ read_line (zeroed l from m)
 zeroed_long l from m h k = sym (read_long (zeroed l from m) (omega (arith, length_zeroed l from m h)))
 
 -- the operands, as code takes them out of the line
-pub operands_part : (l : List ℕ) (name from : ℕ) → name ≡ name_length l → from ≡ name + 1 → name < length l → take (length l - from) (drop from l) ≡ operands_of l
+operands_part : (l : List ℕ) (name from : ℕ) → name ≡ name_length l → from ≡ name + 1 → name < length l → take (length l - from) (drop from l) ≡ operands_of l
 unfolding operands_of
 operands_part l name from e f h =
     let q : from ≡ suc (name_length l) = omega (arith, e, f) in
     take_all (length l - from) (drop from l) (rw length-drop (omega arith)) ∙ ap (λ (n : ℕ). drop n l) q
 
-refused_26 : (r : Outcome) (x : Written) → (r.number ≡ 26) × (r.word ≡ 0) → x ≡ refusal_of 26 → outcome_of r ≡ x
-refused_26 r x f e = rw (f.0, f.1) (sym e)
+module _ (c : Config) (t : Labels) (l : List ℕ) (name : ℕ) (lawfully : test (lawful c) ≡ true) (unread-it : read_line l ≡ unread) (named : name ≡ name_length l) where
+  pub no_space : length l ≤ name → Worded c t l (Err NotInForm)
+  no_space h labels _ = sym (plain_bad c labels l unread-it (target_none l (omega (arith, named))))
 
-module _ (c : Config) (chains nexts keys places l : List ℕ) (n name : ℕ) (r : Outcome) (lawfully : Holds (lawful c)) (unread-it : read_line l ≡ unread)
-    (named : name ≡ name_length l) where
-  pub no_space : length l ≤ name → (r.number ≡ 26) × (r.word ≡ 0) → Worded c chains nexts keys places n l r
-  no_space h f labels t = refused_26 r _ f (plain_bad c labels l unread-it (target_none l (omega (arith, named))))
+  module _ (from : ℕ) (s : List ℕ) (start : from ≡ name + 1) (inside : name < length l) (letters : s ≡ letters_of (take (length l - from) (drop from l))) where
+    those : s ≡ letters_of (operands_of l)
+    those = letters ∙ ap letters_of (operands_part l name from named start inside)
 
-  module _ (from m x : ℕ) (o : List ℕ) (operands : o ≡ operands_of l) (letters : m ≡ length (letters_of o)) (key : x ≡ label_key (letters_of o)) where
-    labelled_by : (b : Bool) → is_label (letters_of (operands_of l)) ≡ b → eqb x 0 ≡ not b
-    labelled_by b e = ap (λ (k : ℕ). eqb k 0) key ∙ key_test (letters_of o) (letters_small o) ∙ ap not (ap (λ (y : List ℕ). is_label (letters_of y)) operands ∙ e)
-
-    pub no_label : x ≡ 0 → (r.number ≡ 26) × (r.word ≡ 0) → Worded c chains nexts keys places n l r
-    no_label z f labels t = refused_26 r _ f (plain_bad c labels l unread-it (target_unlabelled l (go (is_label (letters_of (operands_of l))) refl)))
+    pub no_label : (k : Option Key) → key_number k ≡ label_key s → k ≡ None → Worded c t l (Err NotInForm)
+    unfolding label_key pick
+    no_label k e z labels _ = sym (plain_bad c labels l unread-it (target_unlabelled l (go (is_label (letters_of (operands_of l))) refl)))
       where
+        none : None ≡ label_key (letters_of (operands_of l))
+        none = sym (ap key_number z) ∙ e ∙ ap label_key those
+
         go : (b : Bool) → is_label (letters_of (operands_of l)) ≡ b → is_label (letters_of (operands_of l)) ≡ false
-        go true e = absurd (true_is false (sym (labelled_by true e) ∙ rw z))
-        go false e = e
+        go true u = absurd (true_is false (ap is_some none ∙ rw u))
+        go false u = u
 
-    is_label_lem : (x ≡ 0 → ⊥) → is_label (letters_of (operands_of l)) ≡ true
-    is_label_lem h = go (is_label (letters_of (operands_of l))) refl
-      where
-        go : (b : Bool) → is_label (letters_of (operands_of l)) ≡ b → is_label (letters_of (operands_of l)) ≡ true
-        go true e = e
-        go false e = absurd (h (eqb-true x 0 (labelled_by false e)))
+    module _ (k : Option Key) (x : Key) (key : key_number k ≡ label_key s) (there : k ≡ Some x) where
+      some : Some x.number ≡ label_key (letters_of (operands_of l))
+      some = sym (ap key_number there) ∙ key ∙ ap label_key those
 
-    by_label : (x ≡ 0 → ⊥) → (labels : List Label) → given_by labels l ≡ labelwise (read_line (with_address 0 l)) (address_of labels (letters_of (operands_of l)))
-    unfolding given_by pick
-    by_label h labels = let i = is_label_lem h in rw (target_labelled l i, label_filled (letters_of (operands_of l)) i)
+      labelled : is_label (letters_of (operands_of l)) ≡ true
+      unfolding label_key pick
+      labelled = go (is_label (letters_of (operands_of l))) refl
+        where
+          go : (b : Bool) → is_label (letters_of (operands_of l)) ≡ b → is_label (letters_of (operands_of l)) ≡ true
+          go true u = u
+          go false u = absurd (true_is false (sym (ap is_some some ∙ rw u)))
 
-    zeroed_line : (x ≡ 0 → ⊥) → from ≡ name + 1 → zeroed l from m ≡ with_address 0 l
-    zeroed_line h e =
-        let q : from ≡ suc (name_length l) = omega (arith, e, named) in
-        let k : m ≡ length (target_of l) = letters ∙ ap (λ (y : List ℕ). length (letters_of y)) operands ∙ ap length (sym (target_labelled l (is_label_lem h))) in
-        ap (λ (y : ℕ). zeroed l y m) q ∙ ap (λ (y : ℕ). zeroed l (suc (name_length l)) y) k ∙ sym (with_zeros l)
+      spelled : x.number ≡ spell 0 (letters_of (operands_of l))
+      unfolding label_key pick
+      spelled =
+          let e : label_key (letters_of (operands_of l)) ≡ Some (spell 0 (letters_of (operands_of l))) = rw labelled in
+          ap (λ (o : Option ℕ). unwrap_or o 0) (some ∙ e)
 
-    by_zeroed : (y : Line) → (x ≡ 0 → ⊥) → from ≡ name + 1 → read_line (zeroed l from m) ≡ y → (labels : List Label) →
-        given_by labels l ≡ labelwise y (address_of labels (letters_of (operands_of l)))
-    by_zeroed y h e u labels =
-        by_label h labels ∙ ap (λ (z : Line). labelwise z (address_of labels (letters_of (operands_of l)))) (ap read_line (sym (zeroed_line h e)) ∙ u)
+      by_label : (labels : List Label) → given_by labels l ≡ labelwise (read_line (with_address 0 l)) (address_of labels (letters_of (operands_of l)))
+      unfolding given_by pick
+      by_label labels = rw (target_labelled l labelled, label_filled (letters_of (operands_of l)) labelled)
 
-    pub label_unread : (x ≡ 0 → ⊥) → from ≡ name + 1 → read_line (zeroed l from m) ≡ unread → (r.number ≡ 26) × (r.word ≡ 0) →
-        Worded c chains nexts keys places n l r
-    label_unread h e u f labels t =
-        refused_26 r _ f (ap (word_given c) (by_zeroed unread h e u labels))
+      zeroed_line : zeroed l from (length s) ≡ with_address 0 l
+      zeroed_line =
+          let q : from ≡ suc (name_length l) = omega (arith, start, named) in
+          let m : length s ≡ length (target_of l) = ap length (those ∙ sym (target_labelled l labelled)) in
+          ap (λ (y : ℕ). zeroed l y (length s)) q ∙ ap (λ (y : ℕ). zeroed l (suc (name_length l)) y) m ∙ sym (with_zeros l)
 
-    pub label_found : (i : Instruction) (a : ℕ) → (x ≡ 0 → ⊥) → from ≡ name + 1 → read_line (zeroed l from m) ≡ found i →
-        a ≡ place_of places (lookup keys n x) → outcome_of r ≡ aimed_word c i a → Worded c chains nexts keys places n l r
-    label_found i a h e u p w labels t =
-        let s = letters_of (operands_of l) in
-        let k : x ≡ spell 0 s = key ∙ key_some (letters_of o) (ap (λ (y : List ℕ). is_label (letters_of y)) operands ∙ is_label_lem h) ∙ ap (λ (y : List ℕ). spell 0 (letters_of y)) operands in
-        let g : a ≡ aim (address_of labels s) =
-        p ∙ ap (λ (y : ℕ). place_of places (lookup keys n y)) k ∙ ap (λ (y : ℕ). place_of places (lookup keys y (spell 0 s))) t.many ∙
-        keyed_address keys places labels s t.keyed (letters_small (operands_of l))
-        in
-        w ∙ ap (aimed_word c i) g ∙ aimed_is c i (address_of labels s) lawfully ∙
-        sym (ap (word_given c) (by_zeroed (found i) h e u labels))
+      by_zeroed : (p : Option Instruction) → line_of p ≡ read_line (zeroed l from (length s)) → (labels : List Label) →
+          given_by labels l ≡ labelwise (line_of p) (address_of labels (letters_of (operands_of l)))
+      by_zeroed p u labels =
+          by_label labels ∙ ap (λ (z : Line). labelwise z (address_of labels (letters_of (operands_of l)))) (ap read_line (sym zeroed_line) ∙ sym u)
+
+      pub label_unread : (p : Option Instruction) → line_of p ≡ read_line (zeroed l from (length s)) → p ≡ None → Worded c t l (Err NotInForm)
+      label_unread p u z labels _ = sym (ap (word_given c) (by_zeroed p u labels ∙ ap (λ (p : Option Instruction). labelwise (line_of p) (address_of labels (letters_of (operands_of l)))) z))
+
+      module _ (p : Option Instruction) (i : Instruction) (reads : line_of p ≡ read_line (zeroed l from (length s))) (found-it : p ≡ Some i) where
+        aims : (labels : List Label) → Tabled t labels → address_in t x.number ≡ aim (address_of labels (letters_of (operands_of l)))
+        aims labels h =
+            ap (address_in t) spelled ∙
+            ap (λ (n : ℕ). place_of (places_of t.entries) (lookup (keys_of t.entries) n (spell 0 (letters_of (operands_of l))))) h.many ∙
+            keyed_address (keys_of t.entries) (places_of t.entries) labels (letters_of (operands_of l)) h.keyed (letters_small (operands_of l))
+
+        gives : (labels : List Label) → given_by labels l ≡ labelwise (found i) (address_of labels (letters_of (operands_of l)))
+        gives labels = by_zeroed p reads labels ∙ ap (λ (p : Option Instruction). labelwise (line_of p) (address_of labels (letters_of (operands_of l)))) found-it
+
+        pub label_unknown : (a : Option ℕ) → a ≡ address_in t x.number → a ≡ None → Worded c t l (Err UnknownLabel)
+        label_unknown a e z labels h = aimed_nowhere c i _ (sym z ∙ e ∙ aims labels h) ∙ sym (ap (word_given c) (gives labels))
+
+        pub label_found : (a : Option ℕ) (y : ℕ) (j : Instruction) (r : Result ℕ LineError) → a ≡ address_in t x.number → a ≡ Some y → j ≡ set_target i y →
+            outcome_of r ≡ write_lawful c j → Worded c t l r
+        label_found a y j r e z f g labels h =
+            g ∙ ap (write_lawful c) f ∙ aimed_at c i _ y (lawful_here c lawfully) (sym z ∙ e ∙ aims labels h) ∙ sym (ap (word_given c) (gives labels))
 
 -- a line with a letter beyond f is in no form
 
@@ -273,29 +295,29 @@ far_unread l j h e = go (read_line l) refl
     go (found i) q = absurd (not_beyond (get_or l j 0) (clean_at l j (plain_read l i q).is_clean h) e)
     go unread q = q
 
-pub finds_far : (forms t : List ℕ) (s n j : ℕ) (b : Bool) → s + n ≤ length t → j < n → b ≡ is_beyond (get_or t (s + j) 0) → b ≡ true → Finds forms t s n 0
-finds_far forms t s n j b h k e f =
+pub reads_far : (t : List ℕ) (s n j : ℕ) (b : Bool) → s + n ≤ length t → j < n → b ≡ is_beyond (get_or t (s + j) 0) → b ≡ true → unread ≡ read_line (slice s (s + n) t)
+reads_far t s n j b h k e f =
     let i = line_at t s n h in
-    let u = far_unread (slice s (s + n) t) j (omega (arith, i.long)) (ap is_beyond (i.each j k) ∙ sym e ∙ f) in
-    record { none = λ _. u; some = λ z. absurd (z refl) }
-
--- what a form that was found reads
-
-pub ready_by : (forms t : List ℕ) (s n r : ℕ) → Finds forms t s n r → (r ≡ 0 → ⊥) →
-    (r - 1 < 186) × (length forms ≡ 5952) × Shown forms (32 * (r - 1) + 20) s (length t) × Shown forms (32 * (r - 1) + 22) s (length t) × Shown forms (32 * (r - 1) + 24) s (length t)
-ready_by forms t s n r d z = let w = d.some z in (w.below, w.long, w.upper, w.lower, w.rest)
-
-pub found_by : (forms t : List ℕ) (s n r : ℕ) (i : Instruction) → Finds forms t s n r → (r ≡ 0 → ⊥) → i ≡ read_in forms (r - 1) (drop s t) → found i ≡ read_line (slice s (s + n) t)
-found_by forms t s n r i d z e = ap found e ∙ (d.some z).reads
+    sym (far_unread (slice s (s + n) t) j (omega (arith, i.long)) (ap is_beyond (i.each j k) ∙ sym e ∙ f))
 
 -- where the text from s up to e is read as a line
-pub line_read : (text : List ℕ) (s e : ℕ) (y : Line) → s ≤ e → y ≡ read_line (slice s (s + (e - s)) text) → y ≡ read_line (slice s e text)
+line_read : (text : List ℕ) (s e : ℕ) (y : Line) → s ≤ e → y ≡ read_line (slice s (s + (e - s)) text) → y ≡ read_line (slice s e text)
 line_read text s e y h f =
     let q : s + (e - s) ≡ e = omega arith in
     f ∙ ap (λ (n : ℕ). read_line (slice s n text)) q
 
--- a line that is in the form as it stands
-pub plain_found : (c : Config) (chains nexts keys places l : List ℕ) (n : ℕ) (r : Outcome) (i : Instruction) → read_line l ≡ found i →
-    outcome_of r ≡ write_lawful c i → Worded c chains nexts keys places n l r
-unfolding given_by pick
-plain_found c chains nexts keys places l n r i e f labels t = rw (no_target l (plain_read l i e).is_clean, e) f
+module _ (c : Config) (t : Labels) (text : List ℕ) (s e : ℕ) (h : s ≤ e) (k : e ≤ length text) (p : Option Instruction) (reads : line_of p ≡ read_line (slice s (s + (e - s)) text)) where
+  -- a line that is in the form as it stands
+  pub plain_found : (i : Instruction) (r : Result ℕ LineError) → p ≡ Some i → outcome_of r ≡ write_lawful c i → Worded c t (slice s e text) r
+  unfolding given_by pick
+  plain_found i r z f labels _ =
+      let l = slice s e text in
+      let q : read_line l ≡ found i = sym (line_read text s e _ h reads) ∙ ap line_of z in
+      rw (no_target l (plain_read l i q).is_clean, q) f
+
+  -- one that is not
+  pub plain_unread : p ≡ None → read_line (take (e - s) (drop s text)) ≡ unread
+  plain_unread z = ap read_line (part_line text s e h k) ∙ sym (line_read text s e _ h reads) ∙ ap line_of z
+
+  pub plain_part : (r : Result ℕ LineError) → Worded c t (take (e - s) (drop s text)) r → Worded c t (slice s e text) r
+  plain_part r f = subst (λ (l : List ℕ). Worded c t l r) (part_line text s e h k) f

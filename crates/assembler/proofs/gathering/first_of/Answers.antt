@@ -1,9 +1,9 @@
 -- `assembler::gathering::first_of` meets its contract. Assumes nothing.
-use Rattle.assembler.proofs.gathering.Laws.{chosen, other}
+use Rattle.assembler.proofs.gathering.Laws.{first_again, first_before}
 use Rattle.assembler.proofs.gathering.first_of.Goals as goal
 
-pub returns-then-twice-again : goal.returns-then-twice-again
-returns-then-twice-again c = chosen _ _ _ c.if-twice-again.true
+pub returns-then-again : goal.returns-then-again
+returns-then-again c = first_again _ _ _ _ c.if-again.true c.or.ensures
 
-pub returns-else-twice-again : goal.returns-else-twice-again
-returns-else-twice-again c = other _ _ _ c.if-twice-again.false
+pub returns-else-again : goal.returns-else-again
+returns-else-again c = first_before c.args.twice _ c.args.line c.if-again.false

@@ -5,7 +5,7 @@ use Rattle.assembler.proofs.gathering.Laws.{Going}
 use Rattle.assembler.proofs.gathering.gather.Given as goal
 
 abbrev pub invariant-loop-s : goal.invariant-loop-s
-invariant-loop-s l = Going l.text l.room l.s l.line l.labels l.words l.twice l.heads l.nexts l.keys l.places
+invariant-loop-s l = Going l.text l.room l.s l.line l.words l.twice l.labels
 
 abbrev pub decreases-loop-s : goal.decreases-loop-s
 decreases-loop-s l = suc (length l.text) - l.s

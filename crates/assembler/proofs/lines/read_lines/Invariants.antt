@@ -5,7 +5,7 @@ use Rattle.assembler.proofs.lines.Laws.{Passing}
 use Rattle.assembler.proofs.lines.read_lines.Given as goal
 
 abbrev pub invariant-loop-s : goal.invariant-loop-s
-invariant-loop-s l = Passing l.c l.text l.initial.words l.keep l.s l.line l.count l.words
+invariant-loop-s l = Passing l.writer.config l.text l.initial.words l.s l.line l.count l.words
 
 abbrev pub decreases-loop-s : goal.decreases-loop-s
 decreases-loop-s l = suc (length l.text) - l.s
