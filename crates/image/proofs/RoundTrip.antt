@@ -1,5 +1,5 @@
 -- A stored image loads back. Assumes nothing.
-use Rattle.std.proofs.Common.{◌≡◌, ℕ, zero, suc, ◌+◌, ◌-◌, ◌*◌, ◌/◌, ◌%◌, ◌^◌, ◌<◌, ◌≤◌, true, List, [], ◌∷◌, ◌++◌, length, get_or, sym, refl, ap, ◌∙◌, add-zero, add-suc, suc-add, zero-add, add-one, arith, length-append, get_or-append-add, eq-eqb, ne_eqb, le-leb}
+use Rattle.std.proofs.Common.{◌≡◌, ℕ, zero, suc, ◌+◌, ◌-◌, ◌*◌, ◌/◌, ◌%◌, ◌^◌, ◌<◌, ◌≤◌, true, List, [], ◌∷◌, ◌++◌, length, get_or, sym, refl, ap, ◌∙◌, add-zero, add-suc, suc-add, zero-add, add-one, arith, length-append, get_or-append-add, eq-eqb, ne_eqb, le-leb, Ok, Err}
 use native.Mathlib.Nat.{div-div-eq-div-mul, mod-add-div'}
 use lib.ListN.{get_or-append, get_or-eq_default}
 use lib.Seq.{get_or_at}
@@ -9,6 +9,9 @@ use Rattle.laws.specs.First.{first_failing, numbered, obeyed}
 use Rattle.laws.specs.Cells.{below_at}
 use Rattle.words.specs.declared.Config.{Config}
 use Rattle.words.specs.Configs.{lawful}
+use Rattle.image.specs.declared.Refusal.{Refusal}
+use Rattle.image.specs.Answers.{refusal_number, number_of}
+use Rattle.image.proofs.Answers.{numbered as numbered_one}
 use Rattle.image.specs.File.{word_at, words_of, words_at, total, checksum, blocks_for, file_size, first_filling, config_of, image_word, image_words}
 use Rattle.image.specs.Loading.{zeros, block_tests, blocks_tests, head_tests, rest_tests, load_of}
 use Rattle.image.specs.Storing.{bytes_of, filled, block_of, blocks_of, head_of, file_of, store_tests, Store, store_of}
@@ -292,16 +295,16 @@ store_then_load c image file before h e q =
     rw e (loads_back c image o.0 o.1.0 h before q)
 
 -- what `store` promises, on a refusal and on a pass
-pub store_refused : (c : Config) (image file : List ℕ) (r : ℕ) → r ≡ first_failing (store_tests c (length image) (length file)) → (r ≡ 0 → ⊥) →
-    Stores c image file r file
-unfolding store_of pick
-store_refused c image file r e h =
-    let n : first_failing (store_tests c (length image) (length file)) ≡ r = sym e in
-    record { answer = rw (n, ne_eqb r 0 h); back = store_then_load }
+pub store_refused : (c : Config) (image file : List ℕ) (x : Refusal) → refusal_number x ≡ first_failing (store_tests c (length image) (length file)) →
+    Stores c image file (Err x) file
+unfolding store_of pick number_of
+store_refused c image file x e =
+    let n : first_failing (store_tests c (length image) (length file)) ≡ refusal_number x = sym e in
+    record { answer = rw (n, ne_eqb (refusal_number x) 0 (numbered_one x)); back = store_then_load }
 
 pub stored : (c : Config) (image file after : List ℕ) → first_failing (store_tests c (length image) (length file)) ≡ 0 → after ≡ file_of c image →
-    Stores c image file 0 after
-unfolding store_of pick
+    Stores c image file (Ok tt) after
+unfolding store_of pick number_of
 stored c image file after z e =
     let a : ◌≡◌ {A = Store} (record { number = 0; file = after }) (store_of c image file) = rw (z, e) in
     record { answer = a; back = store_then_load }

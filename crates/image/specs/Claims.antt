@@ -1,7 +1,8 @@
 -- What the calls promise, and what is proved of the two together: a stored image loads back. The contracts cite these records.
-use Rattle.std.specs.Prelude.{◌≡◌, ℕ, ◌<◌, ◌≤◌, List, ◌++◌, length, drop, slice_index}
+use Rattle.std.specs.Prelude.{◌≡◌, ℕ, ◌<◌, ◌≤◌, List, ◌++◌, length, drop, slice_index, Result, ⊤}
 use Rattle.words.specs.declared.Config.{Config}
-use Rattle.image.specs.declared.Loaded.{Loaded}
+use Rattle.image.specs.declared.Refusal.{Refusal}
+use Rattle.image.specs.Answers.{number_of, load_answer}
 use Rattle.image.specs.Loading.{Load, load_of}
 use Rattle.image.specs.Storing.{Store, store_of}
 
@@ -20,10 +21,10 @@ StoreThenLoad =
     load_of (store_of c image file).file before ≡ loaded c image before
 
 -- what `load` promises of its answer r and of what the image slice then holds
-abbrev pub Loads : List ℕ → List ℕ → Loaded → List ℕ → Type 0
-Loads file image r after = record { number = r.number; config = r.config; image = after } ≡ load_of file image
+abbrev pub Loads : List ℕ → List ℕ → Result Config Refusal → List ℕ → Type 0
+Loads file image r after = load_answer r after ≡ load_of file image
 
 -- what `store` promises of its answer r and of what the buffer then holds
-pub record Stores (c : Config) (image file : List ℕ) (r : ℕ) (after : List ℕ) : Type 0 where
-  pub answer : ◌≡◌ {A = Store} (record { number = r; file = after }) (store_of c image file)
+pub record Stores (c : Config) (image file : List ℕ) (r : Result ⊤ Refusal) (after : List ℕ) : Type 0 where
+  pub answer : ◌≡◌ {A = Store} (record { number = number_of r; file = after }) (store_of c image file)
   pub back : StoreThenLoad

@@ -1,4 +1,5 @@
 pub mod File
 pub mod Loading
 pub mod Storing
+pub mod Answers
 pub mod Claims

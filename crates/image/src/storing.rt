@@ -1,12 +1,16 @@
 // Writing an image file, in one pass.
-ghost use Rattle.std.specs.Prelude.{◌≡◌, ◌+◌, ◌*◌, ◌<◌, ◌≤◌, [], ◌∷◌, length, slice_index};
+ghost use Rattle.std.specs.Prelude.{◌≡◌, ◌+◌, ◌*◌, ◌<◌, ◌≤◌, [], ◌∷◌, length};
 ghost use Rattle.std.proofs.lemmas.List.Edits.{sets};
 ghost use Rattle.laws.specs.First.{first_failing};
+ghost use Rattle.image.specs.Answers.{number_of};
 ghost use Rattle.image.specs.File.{file_size};
 ghost use Rattle.image.specs.Storing.{Put, bytes_of, filled, block_of, blocks_of, head_of, file_of, store_tests};
 ghost use Rattle.image.specs.Claims.{Stores};
 
-use crate::blocks::blocks_for;
+use crate::Refusal;
+use crate::blocks::{
+    BLOCK_BYTES, BLOCK_WORDS, CHECKED_WORDS, CHECKSUM_START, IMAGE_WORDS, WORD_BYTES, blocks_for,
+};
 use words::Config;
 
 // Puts the little-endian word w at place i.
@@ -14,18 +18,12 @@ fn put_word(file: &mut [u8], i: usize, w: u32)
     requires { i * 4 + 4 ≤ length file.old }
     ensures { file.new ≡ sets file.old (i * 4) (bytes_of (w ∷ [])) }
 {
-    let at = i * 4;
-    file[at] = (w % 256) as u8;
-    file[at + 1] = (w / 256 % 256) as u8;
-    file[at + 2] = (w / 65536 % 256) as u8;
-    file[at + 3] = (w / 16777216 % 256) as u8;
-}
-
-// The word i, or 0 past the end.
-fn word_or_zero(words: &[u32], i: usize) -> u32
-    ensures { result ≡ slice_index words.now i }
-{
-    if i < words.len() { words[i] } else { 0 }
+    let at = i * WORD_BYTES;
+    let bytes = w.to_le_bytes();
+    file[at] = bytes[0];
+    file[at + 1] = bytes[1];
+    file[at + 2] = bytes[2];
+    file[at + 3] = bytes[3];
 }
 
 // Puts n of the words from word `from` on at place `place`, zeros past their end; answers the sum with them added.
@@ -34,12 +32,10 @@ fn put_words(file: &mut [u8], place: usize, words: &[u32], from: usize, n: usize
     ensures { Put file.old place (filled words.now from n) sum result file.new }
 {
     let mut s = sum;
-    let mut i = 0;
-    while i < n {
-        let w = word_or_zero(words, from + i);
+    for i in 0..n {
+        let w = words.get(from + i).copied().unwrap_or(0);
         put_word(file, place + i, w);
-        s = std::num::wrapping_add_u32(s, w);
-        i += 1;
+        s = s.wrapping_add(w);
     }
     s
 }
@@ -50,16 +46,17 @@ fn put_block(file: &mut [u8], b: usize, words: &[u32], from: usize)
     ensures { file.new ≡ sets file.old (b * 512) (bytes_of (block_of b words.now from)) }
 {
     let number = b as u32;
-    put_word(file, b * 128, number);
+    let first = b * BLOCK_WORDS;
+    put_word(file, first, number);
     let sum = put_words(
         file,
-        b * 128 + 1,
+        first + 1,
         words,
         from,
-        126,
-        std::num::wrapping_add_u32(512, number),
+        IMAGE_WORDS,
+        CHECKSUM_START.wrapping_add(number),
     );
-    put_word(file, b * 128 + 127, sum);
+    put_word(file, first + CHECKED_WORDS, sum);
 }
 
 // Writes n blocks of the image from block 1 on.
@@ -67,10 +64,8 @@ fn put_image(file: &mut [u8], image: &[u32], n: usize)
     requires { (n ≤ 300) × (n * 512 + 512 ≤ length file.old) }
     ensures { file.new ≡ sets file.old 512 (bytes_of (blocks_of 1 image.now 0 n)) }
 {
-    let mut b = 0;
-    while b < n {
-        put_block(file, b + 1, image, b * 126);
-        b += 1;
+    for b in 0..n {
+        put_block(file, b + 1, image, b * IMAGE_WORDS);
     }
 }
 
@@ -84,21 +79,21 @@ fn head_words(c: Config) -> [u32; 14]
     ]
 }
 
-// Why nothing is written: 1, 2 or 19; 0 where all is.
-fn store_refusal(c: Config, words: usize, bytes: usize) -> u32
-    ensures { result ≡ first_failing (store_tests c words bytes) }
+// Why nothing is written: 1, 2 or 19.
+fn check_store(c: Config, words: usize, bytes: usize) -> Result<(), Refusal>
+    ensures { number_of result ≡ first_failing (store_tests c words bytes) }
 {
     if !c.lawful() {
-        return 1;
+        return Err(Refusal::Unlawful);
     }
     let size = c.imsize as usize;
     if words != size {
-        return 2;
+        return Err(Refusal::WrongLength);
     }
-    if bytes != blocks_for(size) * 512 + 512 {
-        return 19;
+    if bytes != blocks_for(size) * BLOCK_BYTES + BLOCK_BYTES {
+        return Err(Refusal::FileLength);
     }
-    0
+    Ok(())
 }
 
 // Writes the whole file.
@@ -113,13 +108,10 @@ fn put_file(c: Config, image: &[u32], file: &mut [u8])
 
 // Writes the image file of a configuration and an image into the buffer, or on a refusal nothing: 1; 2 where the image is not IM_SIZE long; 19 where the
 // buffer is not exactly as long as the file. What it writes loads back to the same configuration and words.
-pub fn store(c: Config, image: &[u32], file: &mut [u8]) -> u32
+pub fn store(c: Config, image: &[u32], file: &mut [u8]) -> Result<(), Refusal>
     ensures { Stores c image.now file.old result file.new }
 {
-    let refusal = store_refusal(c, image.len(), file.len());
-    if refusal != 0 {
-        return refusal;
-    }
+    check_store(c, image.len(), file.len())?;
     put_file(c, image, file);
-    0
+    Ok(())
 }

@@ -1,36 +1,57 @@
--- The limit on the file, and how many words are taken. Assumes nothing.
+-- The limit on the file. Assumes nothing.
 use Prim.Native.Nat.{ℕ, ◌<◌, ◌≤◌}
 use mathlib.Core.Path.{◌≡◌, refl, sym, ap, ◌∙◌}
 use mathlib.Core.List.{List}
-use native.Mathlib.Omega.{arith}
 use borrow.Author.Tests.{le-leb, lt-leb}
-use lib.ListN.{length, drop_of_length-le}
-use lib.Seq.{take_all, length-take-le}
+use lib.ListN.{length}
 use Rattle.laws.specs.Choice.{pick}
-use Rattle.image.specs.declared.Loaded.{Loaded}
-use Rattle.image.specs.Loading.{Load, load_of}
-use Rattle.opening.specs.Opening.{file_limit, number_of, opened, open_of, Counted}
+use Rattle.std.proofs.Common.{Result, Ok, Err}
+use Rattle.words.specs.declared.Config.{Config}
+use Rattle.image.specs.declared.Refusal as unloaded
+use Rattle.image.specs.Answers.{load_answer}
+use Rattle.image.specs.Claims.{Loads}
+use Rattle.image.specs.Loading.{Load as Loading}
+use Rattle.image.proofs.Answers.{numbered}
+use Rattle.opening.specs.declared.Refusal.TheVariants.{TooLong, Load}
+use Rattle.opening.specs.Opening.{file_limit, number_of, open_of, Answers}
 
-pub too_long : (bytes n : ℕ) → file_limit < bytes → 2 ≡ number_of bytes n
+too_long : (bytes n : ℕ) → file_limit < bytes → 2 ≡ number_of bytes n
 unfolding number_of pick
 too_long bytes n h = rw (lt-leb bytes file_limit h)
 
-pub not_too_long : (bytes n : ℕ) → bytes ≤ file_limit → n ≡ number_of bytes n
+not_too_long : (bytes n : ℕ) → bytes ≤ file_limit → n ≡ number_of bytes n
 unfolding number_of pick
 not_too_long bytes n h = rw (le-leb bytes file_limit h)
 
-pub opens : (f image after : List ℕ) (n : ℕ) (l r : Loaded) → opened l after ≡ load_of f image → n ≡ number_of (length f) l.number →
-    r ≡ record { number = n; config = l.config } → opened r after ≡ open_of f image
-unfolding open_of
-opens f image after n l r e h k = rw (k, h) (ap (λ (x : Load). record { number = number_of (length f) x.number; config = x.config; image = x.image }) e)
+image_left : (r : Result Config unloaded.Refusal) (after : List ℕ) → (load_answer r after).image ≡ after
+unfolding load_answer
+image_left (Ok c) after = refl
+image_left (Err why) after = refl
 
-pub some : (n : ℕ) (words : List ℕ) → n < length words → Counted n words n
-some n words h = record { within = omega arith; measured = sym (length-take-le n words (omega arith)); same = refl; rest = refl }
+module _ (f image after : List ℕ) where
+  pub is_too_long : (r : Result Config unloaded.Refusal) → Loads f image r after → file_limit < length f → Answers (open_of f image) (Err TooLong) after
+  unfolding open_of
+  is_too_long r l h = record {
+    number = too_long (length f) _ h;
+    refused = λ e. cc;
+    config = tt;
+    image = sym (image_left r after) ∙ ap (λ (x : Loading). x.image) l;
+  }
 
-pub all : (n : ℕ) (words : List ℕ) → length words ≤ n → Counted n words (length words)
-all n words h = record {
-  within = omega arith;
-  measured = sym (length-take-le (length words) words (omega arith));
-  same = take_all (length words) words (omega arith) ∙ sym (take_all n words h);
-  rest = drop_of_length-le words (let k : length words ≤ length words = omega arith in k) ∙ sym (drop_of_length-le words h);
-}
+  pub is_refused : (why : unloaded.Refusal) → Loads f image (Err why) after → length f ≤ file_limit → Answers (open_of f image) (Err (Load why)) after
+  unfolding open_of load_answer
+  is_refused why l h = record {
+    number = ap (λ (x : Loading). x.number) l ∙ not_too_long (length f) _ h;
+    refused = numbered why;
+    config = tt;
+    image = ap (λ (x : Loading). x.image) l;
+  }
+
+  pub opens : (c : Config) → Loads f image (Ok c) after → length f ≤ file_limit → Answers (open_of f image) (Ok c) after
+  unfolding open_of load_answer
+  opens c l h = record {
+    number = ap (λ (x : Loading). x.number) l ∙ not_too_long (length f) _ h;
+    refused = tt;
+    config = ap (λ (x : Loading). x.config) l;
+    image = ap (λ (x : Loading). x.image) l;
+  }

@@ -1,8 +1,11 @@
 -- Opening an image file: loading it, and "past 34,304 bytes of input" 2.
-use Rattle.std.specs.Prelude.{ℕ, ◌≤◌, ◌≡◌, List, leb, length, take, drop}
+use Rattle.std.specs.Prelude.{ℕ, ◌≤◌, ◌≡◌, ◌≢◌, List, leb, length, take, drop, Result, Ok, Err, IfOk, IfErr}
 use Rattle.laws.specs.Choice.{pick}
-use Rattle.image.specs.declared.Loaded.{Loaded}
+use Rattle.words.specs.declared.Config.{Config}
 use Rattle.image.specs.Loading.{Load, load_of}
+use Rattle.image.specs.Answers.{refusal_number as load_refusal_number}
+use Rattle.opening.specs.declared.Refusal.{Refusal}
+use Rattle.opening.specs.declared.Refusal.TheVariants.{TooLong, Load as Unloaded}
 
 -- "The programs hold 8,192 words": the bytes of the file of so many, 67 blocks of 512
 abbrev pub file_limit : ℕ
@@ -12,13 +15,27 @@ file_limit = 34304
 unfoldable pub number_of : ℕ → ℕ → ℕ
 number_of bytes number = pick (leb bytes file_limit) number 2
 
-abbrev pub opened : Loaded → List ℕ → Load
-opened l image = record { number = l.number; config = l.config; image = image }
-
 unfoldable pub open_of : List ℕ → List ℕ → Load
 open_of f image =
     let l = load_of f image in
     record { number = number_of (length f) l.number; config = l.config; image = l.image }
+
+-- the documents' number
+abbrev pub refusal_number : Refusal → ℕ
+refusal_number TooLong = 2
+refusal_number (Unloaded why) = load_refusal_number why
+
+-- the number of an answer, 0 for a pass
+abbrev pub answer_number : Result Config Refusal → ℕ
+answer_number (Ok c) = 0
+answer_number (Err e) = refusal_number e
+
+-- What a load answers and leaves: its number, which a refusal has and no pass, the configuration beside a pass, and the image.
+pub record Answers (l : Load) (r : Result Config Refusal) (after : List ℕ) : Type 0 where
+  pub number : answer_number r ≡ l.number
+  pub refused : IfErr r (λ e. refusal_number e ≢ 0)
+  pub config : IfOk r (λ c. c ≡ l.config)
+  pub image : after ≡ l.image
 
 -- r of the words are those that n says, all where it says more
 pub record Counted (n : ℕ) (words : List ℕ) (r : ℕ) : Type 0 where

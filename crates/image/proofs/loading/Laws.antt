@@ -1,13 +1,17 @@
 -- Laws of copying the image and of the answers' order. Assumes nothing.
-use Rattle.std.proofs.Common.{◌≡◌, ℕ, zero, suc, ◌+◌, ◌-◌, ◌*◌, ◌%◌, ◌<◌, ◌≤◌, Bool, true, false, T, eqb, leb, List, ◌++◌, length, drop, set, sym, refl, ap, ◌∙◌, add-zero, zero-add, arith, eqb→eq, leb→le, ne_eqb}
+use Rattle.std.proofs.Common.{◌≡◌, ℕ, zero, suc, ◌+◌, ◌-◌, ◌*◌, ◌%◌, ◌<◌, ◌≤◌, Bool, true, false, T, eqb, leb, List, ◌++◌, length, drop, set, sym, refl, ap, ◌∙◌, add-zero, zero-add, arith, eqb→eq, leb→le, ne_eqb, Ok, Err}
 use lib.Seq.{sets, sets-eq}
 use Rattle.laws.specs.Choice.{pick, true_is}
 use Rattle.laws.specs.Test.{test, holds, less, same, ◌and◌}
 use Rattle.laws.specs.First.{first_failing, first_append, positive, numbered, obeyed}
 use Rattle.words.specs.declared.Config.{Config}
 use Rattle.words.specs.Configs.{lawful}
+use Rattle.image.specs.declared.Refusal.{Refusal}
+use Rattle.image.specs.Answers.{refusal_number, load_answer}
+use Rattle.image.specs.Claims.{Loads}
+use Rattle.image.proofs.Answers.{numbered as numbered_one}
 use Rattle.image.specs.File.{word_at, words_of, words_at, blocks_for, file_size, first_filling, config_of, image_word, image_words}
-use Rattle.image.specs.Loading.{zeros, block_tests, blocks_tests, head_tests, rest_tests, load_number, no_config, load_of}
+use Rattle.image.specs.Loading.{zeros, block_tests, blocks_tests, head_tests, rest_tests, load_number, load_of}
 use Rattle.image.proofs.blocks.Laws.{block_positive, blocks_positive}
 use Rattle.image.proofs.Lists.{sets_append, length_words, words_at_lem, words_split, words_same}
 
@@ -139,25 +143,25 @@ rest_passed f n len e =
     (eqb→eq _ _ a.0, leb→le _ _ b.0)
 
 -- the loader's answers
-pub load_refused_head : (f image : List ℕ) (r : ℕ) → r ≡ first_failing (head_tests f) → (r ≡ 0 → ⊥) →
-    record { number = r; config = no_config; image = image } ≡ load_of f image
-unfolding load_of pick
-load_refused_head f image r e h =
-    let n : first_failing (head_tests f) ≡ r = sym e in
-    rw (load_is, n, ne_eqb r 0 h, ne_eqb r 0 h)
+pub load_refused_head : (f image : List ℕ) (x : Refusal) → refusal_number x ≡ first_failing (head_tests f) →
+    Loads f image (Err x) image
+unfolding load_of pick load_answer
+load_refused_head f image x e =
+    let n : first_failing (head_tests f) ≡ refusal_number x = sym e in
+    rw (load_is, n, ne_eqb (refusal_number x) 0 (numbered_one x), ne_eqb (refusal_number x) 0 (numbered_one x))
 
-pub load_refused_rest : (f image : List ℕ) (r : ℕ) → first_failing (head_tests f) ≡ 0 →
-    r ≡ first_failing (rest_tests f (word_at f 1) (length image)) → (r ≡ 0 → ⊥) →
-    record { number = r; config = no_config; image = image } ≡ load_of f image
-unfolding load_of pick
-load_refused_rest f image r z e h =
-    let n : first_failing (rest_tests f (word_at f 1) (length image)) ≡ r = sym e in
-    rw (load_is, z, n, ne_eqb r 0 h)
+pub load_refused_rest : (f image : List ℕ) (x : Refusal) → first_failing (head_tests f) ≡ 0 →
+    refusal_number x ≡ first_failing (rest_tests f (word_at f 1) (length image)) →
+    Loads f image (Err x) image
+unfolding load_of pick load_answer
+load_refused_rest f image x z e =
+    let n : first_failing (rest_tests f (word_at f 1) (length image)) ≡ refusal_number x = sym e in
+    rw (load_is, z, n, ne_eqb (refusal_number x) 0 (numbered_one x))
 
 pub load_passed : (f image after : List ℕ) (c : Config) → first_failing (head_tests f) ≡ 0 →
     first_failing (rest_tests f (word_at f 1) (length image)) ≡ 0 → c ≡ config_of f → after ≡ sets image 0 (image_words f 0 (word_at f 1)) →
-    record { number = 0; config = c; image = after } ≡ load_of f image
-unfolding load_of pick
+    Loads f image (Ok c) after
+unfolding load_of pick load_answer
 load_passed f image after c z e d w =
     let n = word_at f 1 in
     let m = length_words (image_word f) 0 n in

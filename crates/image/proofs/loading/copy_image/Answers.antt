@@ -5,10 +5,10 @@ use Rattle.image.proofs.loading.Laws.{block_next, blocks_start, blocks_end}
 use Rattle.image.proofs.loading.copy_image.Goals as goal
 
 pub loop-b-init : goal.loop-b-init
-loop-b-init c = (omega arith, refl, blocks_start _ _ _)
+loop-b-init c = (refl, blocks_start _ _ _)
 
 pub loop-b-preserved : goal.loop-b-preserved
-loop-b-preserved c = (omega arith, (ap length c.copy_words.ensures ∙ simp length-sets c.loop-b.invariant.1), rw c.copy_words.ensures (block_next _ _ _ _ _ c.in_block.ensures.0 c.in_block.ensures.1.0 c.in_block.ensures.1.1 ∙ c.loop-b.invariant.2))
+loop-b-preserved c = ((ap length c.copy_words.ensures ∙ simp length-sets c.loop-b.invariant.0), rw c.copy_words.ensures (block_next _ _ _ _ _ (omega arith) (omega arith) (omega arith) ∙ c.loop-b.invariant.1))
 
 pub returns : goal.returns
-returns c = sym (blocks_end _ _ _ _ c.loop-b-test.false) ∙ c.loop-b.invariant.2
+returns c = sym (blocks_end _ _ _ _ (omega (arith, c.blocks_for-b-end.ensures))) ∙ c.loop-b.invariant.1

@@ -1,25 +1,42 @@
 -- `image::loading::load` meets its contract. Assumes nothing.
-use Rattle.std.proofs.Common.{◌≡◌, length, sym, ap, ◌∙◌, arith}
-use Rattle.laws.specs.First.{first_failing}
+use Rattle.std.proofs.Common.{rules, ◌≡◌, length, Err, sym, ap, arith}
+use Rattle.image.specs.Answers.{number_of}
 use Rattle.image.specs.File.{word_at}
-use Rattle.image.specs.Loading.{head_tests, rest_tests}
 use Rattle.image.proofs.loading.Laws.{head_passed, rest_passed, load_refused_head, load_refused_rest, load_passed}
 use Rattle.image.proofs.loading.load.Goals as goal
+use Rattle.image.proofs.loading.load.Goals.{In_ok-c}
 
-pub returns-then-head-ne0 : goal.returns-then-head-ne0
-returns-then-head-ne0 c = rw c.refused.ensures (load_refused_head _ _ _ c.head_refusal-head.ensures c.if-head-ne0.true)
+pub returns-in_err-c : goal.returns-in_err-c
+unfolding number_of
+returns-in_err-c c =
+    let r : c.from_residual.result ≡ Err c.in_err-c.field-0.0 = search rules in
+    rw r (load_refused_head _ _ _ c.in_err-c.ensures.number)
 
-pub config_of-c-requires : goal.config_of-c-requires
-config_of-c-requires c = let h : first_failing (head_tests c.args.file.now) ≡ 0 = sym c.head_refusal-head.ensures ∙ omega arith in let p = head_passed c.args.file.now h in omega arith
+-- IM_SIZE of the configuration is the file's
+size : (c : In_ok-c) → c.in_ok-c.c.imsize ≡ word_at c.args.file.now 1
+size c = ap (λ x. x.imsize) c.in_ok-c.ensures.config
 
-pub rest_refusal-rest-requires : goal.rest_refusal-rest-requires
-rest_refusal-rest-requires c = let h : first_failing (head_tests c.args.file.now) ≡ 0 = sym c.head_refusal-head.ensures ∙ omega arith in let p = head_passed c.args.file.now h in let s : c.config_of-c.result.imsize ≡ word_at c.args.file.now 1 = ap (λ x. x.imsize) c.config_of-c.ensures in omega arith
+pub check_rest-requires : goal.check_rest-requires
+unfolding number_of
+check_rest-requires c = let p = head_passed c.args.file.now (sym c.in_ok-c.ensures.number) in let s = size (goal.at.check_rest-requires c).In_ok-c in omega arith
 
-pub returns-then-rest-ne0 : goal.returns-then-rest-ne0
-returns-then-rest-ne0 c = let h : first_failing (head_tests c.args.file.now) ≡ 0 = sym c.head_refusal-head.ensures ∙ omega arith in let s : c.config_of-c.result.imsize ≡ word_at c.args.file.now 1 = ap (λ x. x.imsize) c.config_of-c.ensures in let r : c.rest_refusal-rest.result ≡ first_failing (rest_tests c.args.file.now (word_at c.args.file.now 1) (length c.args.image.now)) = rw s at c.rest_refusal-rest.ensures in rw c.refused-then-rest-ne0.ensures (load_refused_rest _ _ _ h r c.if-rest-ne0.true)
+pub returns-in_err-check_rest : goal.returns-in_err-check_rest
+unfolding number_of
+returns-in_err-check_rest c =
+    let r : c.from_residual-in_err-check_rest.result ≡ Err c.in_err-check_rest.field-0.0 = search rules in
+    let s = size (goal.at.returns-in_err-check_rest c).In_ok-c in
+    rw r (load_refused_rest _ _ _ (sym c.in_ok-c.ensures.number) (rw s at c.in_err-check_rest.ensures))
 
 pub copy_image-requires : goal.copy_image-requires
-copy_image-requires c = let h : first_failing (head_tests c.args.file.now) ≡ 0 = sym c.head_refusal-head.ensures ∙ omega arith in let p = head_passed c.args.file.now h in let s : c.config_of-c.result.imsize ≡ word_at c.args.file.now 1 = ap (λ x. x.imsize) c.config_of-c.ensures in let r : c.rest_refusal-rest.result ≡ first_failing (rest_tests c.args.file.now (word_at c.args.file.now 1) (length c.args.image.now)) = rw s at c.rest_refusal-rest.ensures in let z : first_failing (rest_tests c.args.file.now (word_at c.args.file.now 1) (length c.args.image.now)) ≡ 0 = sym r ∙ omega arith in let q = rest_passed c.args.file.now (word_at c.args.file.now 1) (length c.args.image.now) z in omega arith
+unfolding number_of
+copy_image-requires c =
+    let p = head_passed c.args.file.now (sym c.in_ok-c.ensures.number) in
+    let s = size (goal.at.copy_image-requires c).In_ok-c in
+    let q = rest_passed c.args.file.now (word_at c.args.file.now 1) (length c.args.image.now) (sym (rw s at c.in_ok-check_rest.ensures)) in
+    omega arith
 
 pub returns : goal.returns
-returns c = let h : first_failing (head_tests c.args.file.now) ≡ 0 = sym c.head_refusal-head.ensures ∙ omega arith in let s : c.config_of-c.result.imsize ≡ word_at c.args.file.now 1 = ap (λ x. x.imsize) c.config_of-c.ensures in let r : c.rest_refusal-rest.result ≡ first_failing (rest_tests c.args.file.now (word_at c.args.file.now 1) (length c.args.image.now)) = rw s at c.rest_refusal-rest.ensures in let z : first_failing (rest_tests c.args.file.now (word_at c.args.file.now 1) (length c.args.image.now)) ≡ 0 = sym r ∙ omega arith in load_passed _ _ _ _ h z c.config_of-c.ensures (rw s at c.copy_image.ensures)
+unfolding number_of
+returns c =
+    let s = size (goal.at.returns c).In_ok-c in
+    load_passed _ _ _ _ (sym c.in_ok-c.ensures.number) (sym (rw s at c.in_ok-check_rest.ensures)) c.in_ok-c.ensures.config (rw s at c.copy_image.ensures)
