@@ -19,15 +19,29 @@ use Rattle.state.proofs.Ranges.{accepted}
 use Rattle.state.proofs.Calls.{step_refused, run_refused}
 use Rattle.machine.specs.Stepping.{End, end_of, machine_state}
 use Rattle.machine.specs.Claims.{Steps, StepsLent, Runs, RunsLent}
-use Rattle.certificate.specs.declared.Checked.{Checked}
-use Rattle.certificate.specs.declared.Checked.TheVariants as checked
-use Rattle.certificate.specs.Answers.{answer_of}
+use Rattle.certificate.specs.declared.Rule.{Rule}
+use Rattle.certificate.specs.declared.Fault.{Fault}
+use Rattle.certificate.specs.declared.Fault.TheVariants as fault
+use Rattle.certificate.specs.Answers.{answer_of, rule_number}
+use Rattle.text.specs.declared.errors.TextError.{TextError}
+use Rattle.text.specs.declared.errors.ListError.{ListError}
+use Rattle.text.specs.declared.listing.Listed.{Listed}
+use Rattle.text.specs.Answers.{text_error_number, list_error_number, outcome_number, texted_of, listed_of}
 use Rattle.text.specs.Texts.{Text}
 use Rattle.text.specs.Lines.{Listing}
 use Rattle.assembler.specs.Answers as Assembler
-use Rattle.image.specs.Loading.{Load, load_of}
+use Rattle.assembler.specs.Errors.{error_number, error_line, line_or_0}
+use Rattle.assembler.specs.declared.errors.AssembleError.{AssembleError}
+use Rattle.std.specs.Option.{unwrap_or}
+use Rattle.std.specs.Prelude.{Option, Some, None, Result, Ok, Err}
+use Rattle.image.specs.declared.Refusal as Image
+use Rattle.words.specs.declared.Config.{Config}
+use Rattle.image.specs.Answers.{refusal_number, number_of, load_answer}
+use Rattle.image.specs.Loading.{load_of}
+use Rattle.image.specs.Storing.{Store}
+use Rattle.image.proofs.Answers.{numbered}
 use Rattle.yam_c.specs.Flat.{stored, config_words, core_words, core_in, stack_in, shaped, machine_of, outside, updated}
-use Rattle.yam_c.specs.Calls.{left, moved, moved_to, step_left, run_left, check_left, printed, text_left, list_left, assembled, assemble_left, filled, load_left, load_call}
+use Rattle.yam_c.specs.Calls.{left, moved, moved_to, step_left, run_left, check_left, printed, text_left, list_left, assembled, assemble_left, filled, load_left, load_call, store_left}
 use Rattle.yam_c.proofs.Machines.{stack_length, placed, machine_in}
 
 pub step_done : (o p : Outcome) (machine machine' answers answers' : List ℕ) → o ≡ p →
@@ -71,6 +85,11 @@ pub rested : (e : Env) (s : State) (o : Outcome) → Steps e s o → eqb o.numbe
 rested e s o h q =
     ap (λ (p : Outcome). p.state) h.answer ∙
     h.refused_stays e s (λ z. eqb-false o.number 0 q (ap (λ (p : Outcome). p.number) h.answer ∙ z))
+
+-- what a number that is not 0 chooses
+pub kept : (n : ℕ) (x g : List ℕ) → (n ≡ 0 → ⊥) → g ≡ pick (eqb n 0) x g
+unfolding pick
+kept n x g h = rw (ne_eqb n 0 h) refl
 
 -- a machine that was stepped or run in its words
 
@@ -136,49 +155,88 @@ module _ (e : Env) (machine registers memory addresses values answers answers' :
       a)
 
 -- the check, by the cases of its answer
-module _ (r : Checked) (answers answers' : List ℕ) where
-  pub check_passed : (l : ℕ) → r ≡ checked.Passed l → answers' ≡ stored answers 0 (l ∷ 0 ∷ []) → left 0 answers' ≡ check_left (answer_of r) answers
-  unfolding check_left answer_of pick
-  check_passed l e k = rw (e, k)
+pub check_passed : (r : Result ℕ Fault) (l : ℕ) (answers answers' : List ℕ) → r ≡ Ok l → answers' ≡ stored answers 0 (l ∷ 0 ∷ []) →
+    left 0 answers' ≡ check_left (answer_of r) answers
+unfolding check_left answer_of pick
+check_passed r l answers answers' e k = rw (e, k)
 
-  pub check_unlawful : r ≡ checked.Unlawful → answers' ≡ stored answers 0 (0 ∷ 0 ∷ []) → left 1 answers' ≡ check_left (answer_of r) answers
+module _ (f : Fault) (answers answers' : List ℕ) where
+  pub check_unlawful : f ≡ fault.Unlawful → answers' ≡ stored answers 0 (0 ∷ 0 ∷ []) → left 1 answers' ≡ check_left (answer_of (Err f)) answers
   unfolding check_left answer_of pick
   check_unlawful e k = rw (e, k)
 
-  pub check_misfit : r ≡ checked.WrongLength → answers' ≡ stored answers 0 (0 ∷ 0 ∷ []) → left 2 answers' ≡ check_left (answer_of r) answers
+  pub check_misfit : f ≡ fault.WrongLength → answers' ≡ stored answers 0 (0 ∷ 0 ∷ []) → left 2 answers' ≡ check_left (answer_of (Err f)) answers
   unfolding check_left answer_of pick
   check_misfit e k = rw (e, k)
 
-  pub check_broken : (a n : ℕ) → r ≡ checked.Broken a n → answers' ≡ stored answers 0 (a ∷ n ∷ []) → left 17 answers' ≡ check_left (answer_of r) answers
+  pub check_broken : (a : ℕ) (b : Rule) (n : ℕ) → f ≡ fault.Broken a b → n ≡ rule_number b → answers' ≡ stored answers 0 (a ∷ n ∷ []) →
+      left 17 answers' ≡ check_left (answer_of (Err f)) answers
   unfolding check_left answer_of pick
-  check_broken a n e k = rw (e, k)
+  check_broken a b n e q k = rw (e, k, q)
 
-pub text_done : (t u : Text) (answers answers' : List ℕ) → t ≡ u → answers' ≡ stored answers 0 (t.place ∷ []) →
-    printed t.number t.page answers' ≡ text_left u answers
-unfolding text_left
-text_done t u answers answers' e k = rw k (ap (λ q. text_left q answers) e)
+-- a text, by the cases of its answer
+module _ (r : Result ℕ TextError) (place : ℕ) (page : List ℕ) (t : Text) (e : texted_of r place page ≡ t) (answers answers' : List ℕ) where
+  pub text_passed : (after : ℕ) → r ≡ Ok after → answers' ≡ stored answers 0 (after ∷ []) → printed 0 page answers' ≡ text_left t answers
+  unfolding text_left
+  text_passed after q k = rw k (ap (λ u. text_left u answers) (sym (ap (λ r. texted_of r place page) q) ∙ e))
 
-pub list_done : (l m : Listing) (answers answers' : List ℕ) → l ≡ m → answers' ≡ stored answers 0 (l.place ∷ l.next ∷ []) →
-    printed l.number l.page answers' ≡ list_left m answers
-unfolding list_left
-list_done l m answers answers' e k = rw k (ap (λ q. list_left q answers) e)
+  pub text_refused : (why : TextError) (n : ℕ) → r ≡ Err why → n ≡ text_error_number why → answers' ≡ stored answers 0 (place ∷ []) →
+      printed n page answers' ≡ text_left t answers
+  unfolding text_left
+  text_refused why n q h k = rw (h, k) (ap (λ u. text_left u answers) (sym (ap (λ r. texted_of r place page) q) ∙ e))
 
-pub assemble_done : (a b : Assembler.Answer) (answers answers' : List ℕ) → a ≡ b → answers' ≡ stored answers 0 (a.count ∷ a.line ∷ []) →
+-- a listing, by how it ended
+module _ (r : Listed) (page : List ℕ) (l : Listing) (e : listed_of r page ≡ l) (answers answers' : List ℕ) where
+  list_done : (n : ℕ) → n ≡ outcome_number r.outcome → answers' ≡ stored answers 0 (r.place ∷ r.next ∷ []) → printed n page answers' ≡ list_left l answers
+  unfolding list_left
+  list_done n h k = rw (h, k) (ap (λ q. list_left q answers) e)
+
+  pub list_passed : {u : Unit {0}} → r.outcome ≡ Ok u → answers' ≡ stored answers 0 (r.place ∷ r.next ∷ []) → printed 0 page answers' ≡ list_left l answers
+  list_passed q k = list_done 0 (sym (ap outcome_number q)) k
+
+  pub list_refused : (why : ListError) (n : ℕ) → r.outcome ≡ Err why → n ≡ list_error_number why → answers' ≡ stored answers 0 (r.place ∷ r.next ∷ []) →
+      printed n page answers' ≡ list_left l answers
+  list_refused why n q h k = list_done n (h ∙ sym (ap outcome_number q)) k
+
+assemble_done : (a b : Assembler.Answer) (answers answers' : List ℕ) → a ≡ b → answers' ≡ stored answers 0 (a.count ∷ a.line ∷ []) →
     assembled a.number a.words answers' ≡ assemble_left b answers
 unfolding assemble_left
 assemble_done a b answers answers' e k = rw k (ap (λ q. assemble_left q answers) e)
+
+module _ (r : Result ℕ AssembleError) (words : List ℕ) (b : Assembler.Answer) (e : Assembler.assembled_of r words ≡ b) (answers answers' : List ℕ) where
+  pub assemble_passed : (n : ℕ) → r ≡ Ok n → answers' ≡ stored answers 0 (n ∷ 0 ∷ []) → assembled 0 words answers' ≡ assemble_left b answers
+  assemble_passed n q k = assemble_done (Assembler.assembled_of (Ok n) words) b answers answers' (sym (ap (λ r. Assembler.assembled_of r words) q) ∙ e) k
+
+  pub assemble_refused : (x : AssembleError) (line : Option ℕ) (at number : ℕ) → r ≡ Err x → line ≡ error_line x → at ≡ unwrap_or line 0 → number ≡ error_number x →
+      answers' ≡ stored answers 0 (0 ∷ at ∷ []) → assembled number words answers' ≡ assemble_left b answers
+  assemble_refused x line at number q f g h k =
+      rw h (assemble_done (Assembler.assembled_of (Err x) words) b answers answers' (sym (ap (λ r. Assembler.assembled_of r words) q) ∙ e)
+      (k ∙ ap (λ (n : ℕ). stored answers 0 (0 ∷ n ∷ [])) (g ∙ ap (λ (o : Option ℕ). unwrap_or o 0) f ∙ or_0 (error_line x))))
+    where
+      or_0 : (o : Option ℕ) → unwrap_or o 0 ≡ line_or_0 o
+      or_0 None = refl
+      or_0 (Some n) = refl
 
 module _ (file config image : List ℕ) where
   pub load_misfit : (length config ≡ 19 → ⊥) → filled 1 config image ≡ load_call file config image
   unfolding load_call pick
   load_misfit h = rw (ne_eqb (length config) 19 h)
 
-  pub load_refused : (l : Load) → l ≡ load_of file image → length config ≡ 19 → (l.number ≡ 0 → ⊥) →
-      filled l.number config l.image ≡ load_call file config image
-  unfolding load_call load_left pick
-  load_refused l e h n = rw (eq-eqb (length config) 19 h, ← e, ne_eqb l.number 0 n)
+  pub load_refused : (why : Image.Refusal) (n : ℕ) (image' : List ℕ) → load_answer (Err why) image' ≡ load_of file image → n ≡ refusal_number why →
+      length config ≡ 19 → filled n config image' ≡ load_call file config image
+  unfolding load_call load_left load_answer pick
+  load_refused why n image' e q h = rw (eq-eqb (length config) 19 h, ← e, ne_eqb (refusal_number why) 0 (numbered why), q)
 
-  pub load_passed : (l : Load) (config' : List ℕ) → l ≡ load_of file image → length config ≡ 19 → l.number ≡ 0 →
-      config' ≡ stored config 0 (config_words l.config) → filled 0 config' l.image ≡ load_call file config image
-  unfolding load_call load_left pick
-  load_passed l config' e h n k = rw (eq-eqb (length config) 19 h, ← e, n, k)
+  pub load_passed : (c : Config) (image' config' : List ℕ) → load_answer (Ok c) image' ≡ load_of file image → length config ≡ 19 →
+      config' ≡ stored config 0 (config_words c) → filled 0 config' image' ≡ load_call file config image
+  unfolding load_call load_left load_answer pick
+  load_passed c image' config' e h k = rw (eq-eqb (length config) 19 h, ← e, k)
+
+module _ (r : Result (Unit {0}) Image.Refusal) (file : List ℕ) (s : Store) (e : ◌≡◌ {A = Store} (record { number = number_of r; file = file }) s) where
+  pub store_passed : {u : Unit {0}} → r ≡ Ok u → left 0 file ≡ store_left s
+  unfolding number_of
+  store_passed q = rw q at (ap store_left e)
+
+  pub store_refused : (why : Image.Refusal) (n : ℕ) → r ≡ Err why → n ≡ refusal_number why → left n file ≡ store_left s
+  unfolding refusal_number number_of
+  store_refused why n q h = rw h (rw q at (ap store_left e))

@@ -8,6 +8,7 @@ ghost use Rattle.state.specs.Ranges.{guards};
 ghost use Rattle.machine.specs.Stepping.{machine_state};
 ghost use Rattle.yam_c.specs.Flat.{stored, low, high, wide, config_words, config_of, config_in, instruction_words, instruction_in, instruction_of, core_words, core_in, shaped, machine_words, outside};
 
+use guards::Lent;
 use state::{Core, Machine};
 use words::{Config, Instruction};
 
@@ -36,7 +37,7 @@ const WORD_VALUES: u64 = 4294967296;
 fn cell(flat: &[u32], i: usize) -> u32
     ensures { result ≡ get_or flat.now i 0 }
 {
-    if i < flat.len() { flat[i] } else { 0 }
+    flat.get(i).copied().unwrap_or(0)
 }
 
 // Word i, which is there.
@@ -48,7 +49,7 @@ fn word(flat: &[u32], i: usize) -> u32
 }
 
 // Stores v at place i, if that is there.
-fn put(flat: &mut [u32], i: usize, v: u32)
+fn put<T: Copy>(flat: &mut [T], i: usize, v: T)
     ensures { flat.new ≡ set flat.old i v }
 {
     if i < flat.len() {
@@ -61,19 +62,8 @@ fn store(flat: &mut [u32], at: usize, values: &[u32])
     requires { (at ≤ 100) × (length values.now ≤ 100) }
     ensures { flat.new ≡ stored flat.old at values.now }
 {
-    let mut i = 0;
-    while i < values.len() {
+    for i in 0..values.len() {
         put(flat, at + i, values[i]);
-        i += 1;
-    }
-}
-
-// The same place in a list of answers.
-fn put_answer(answers: &mut [u64], i: usize, v: u64)
-    ensures { answers.new ≡ set answers.old i v }
-{
-    if i < answers.len() {
-        answers[i] = v;
     }
 }
 
@@ -81,7 +71,7 @@ fn put_answer(answers: &mut [u64], i: usize, v: u64)
 fn wide(low: u32, high: u32) -> usize
     ensures { result ≡ wide low high }
 {
-    low as usize + high as usize * 4294967296
+    low as usize + high as usize * WORD_VALUES as usize
 }
 
 fn low(n: u64) -> u32
@@ -100,14 +90,14 @@ fn high(n: u64) -> u32
 pub fn answer(answers: &mut [u64], a: u64)
     ensures { answers.new ≡ stored answers.old 0 (a ∷ []) }
 {
-    put_answer(answers, 0, a);
+    put(answers, 0, a);
 }
 
 pub fn answer_two(answers: &mut [u64], a: u64, b: u64)
     ensures { answers.new ≡ stored answers.old 0 (a ∷ b ∷ []) }
 {
-    put_answer(answers, 0, a);
-    put_answer(answers, 1, b);
+    put(answers, 0, a);
+    put(answers, 1, b);
 }
 
 fn config_in(flat: &[u32]) -> Config
@@ -245,12 +235,23 @@ pub fn misshapen(
     ensures { result ≡ first_failing (guards (env c image.now inputs.now) (machine_state outside registers.now memory.now addresses.now values.now)) }
 {
     let m = Machine::reset();
-    let mut core = m.core;
-    core.pc = Machine::PC_LIMIT;
-    let stack = m.stack;
-    guards::refusal(
-        c, core, image, inputs, &stack, registers, memory, addresses, values,
-    )
+    let core = Core {
+        pc: Machine::PC_LIMIT,
+        ..m.core
+    };
+    let lent = Lent {
+        image,
+        inputs,
+        stack: &m.stack,
+        registers,
+        memory,
+        addresses,
+        values,
+    };
+    match guards::validate(c, core, &lent) {
+        Ok(()) => 0,
+        Err(why) => why.number(),
+    }
 }
 
 fn core_words(m: Core) -> [u32; STACK_FROM]

@@ -1,7 +1,7 @@
 // The C interface: exported functions on numbers and slices; a slice is a pointer and its length. include/yam.h declares them.
 #![tactic(auto)]
 
-ghost use Rattle.std.specs.Prelude.{◌≡◌};
+ghost use Rattle.std.specs.Prelude.{◌≡◌, Err};
 ghost use Rattle.words.specs.Answers.{reading_of, writing_of};
 ghost use Rattle.certificate.specs.Answers.{answer_of};
 ghost use Rattle.laws.specs.Test.{Holds};
@@ -17,21 +17,21 @@ ghost use Rattle.yam_c.specs.Claims.{ConfigBack, InstructionBack, MachineBack, S
 
 mod flat;
 
-use certificate::Checked;
+use certificate::Fault;
 use flat::{
     answer, answer_two, config_from, config_into, core_in, instruction_from, instruction_into,
     machine_into, machine_shaped, misshapen, update,
 };
 use state::Machine;
-use words::{Config, Reading, Writing};
+use words::{Config, Instruction, Refusal};
 
 // What yam_read answers and leaves, once the word is read.
-fn read_into(r: Reading, instruction: &mut [u32]) -> u32
+fn read_into(r: Result<Instruction, Refusal>, instruction: &mut [u32]) -> u32
     ensures { left result instruction.new ≡ read_left (reading_of r) instruction.old }
 {
     match r {
-        Reading::Refused(x) => x.number(),
-        Reading::Decoded(i) => {
+        Err(why) => why.number(),
+        Ok(i) => {
             if instruction.len() != flat::INSTRUCTION_WORDS {
                 return 7;
             }
@@ -42,42 +42,51 @@ fn read_into(r: Reading, instruction: &mut [u32]) -> u32
 }
 
 // What yam_write answers and leaves, once the instruction is written.
-fn write_into(w: Writing, answers: &mut [u64]) -> u32
+fn write_into(w: Result<u32, Refusal>, answers: &mut [u64]) -> u32
     ensures { left result answers.new ≡ write_left (writing_of w) answers.old }
 {
     match w {
-        Writing::Refused(x) => {
+        Err(why) => {
             answer(answers, 0);
-            x.number()
+            why.number()
         }
-        Writing::Encoded(word) => {
+        Ok(word) => {
             answer(answers, word as u64);
             0
         }
     }
 }
 
-// What yam_check answers and leaves, once the certificate is checked.
-fn check_into(r: Checked, answers: &mut [u64]) -> u32
-    ensures { left result answers.new ≡ check_left (answer_of r) answers.old }
+// What yam_check answers and leaves of a fault.
+fn fault_into(fault: Fault, answers: &mut [u64]) -> u32
+    ensures { left result answers.new ≡ check_left (answer_of (Err fault)) answers.old }
 {
-    match r {
-        Checked::Passed(level) => {
-            answer_two(answers, level as u64, 0);
-            0
-        }
-        Checked::Unlawful => {
+    match fault {
+        Fault::Unlawful => {
             answer_two(answers, 0, 0);
             1
         }
-        Checked::WrongLength => {
+        Fault::WrongLength => {
             answer_two(answers, 0, 0);
             2
         }
-        Checked::Broken(address, rule) => {
-            answer_two(answers, address as u64, rule as u64);
+        Fault::Broken { address, rule } => {
+            answer_two(answers, address as u64, rule.number() as u64);
             17
         }
+    }
+}
+
+// What yam_check answers and leaves, once the certificate is checked.
+fn check_into(r: Result<u32, Fault>, answers: &mut [u64]) -> u32
+    ensures { left result answers.new ≡ check_left (answer_of r) answers.old }
+{
+    match r {
+        Ok(level) => {
+            answer_two(answers, level as u64, 0);
+            0
+        }
+        Err(fault) => fault_into(fault, answers),
     }
 }
 
@@ -127,7 +136,7 @@ fn step_in_place(
     ensures { moved result machine.new registers.new memory.new addresses.new values.new answers.new ≡ step_left (step_of (env c image.now inputs.now) (machine_state (machine_of machine.old) registers.old memory.old addresses.old values.old)) machine.old answers.old }
 {
     let m = core_in(machine);
-    let r = machine::step_lent(
+    match machine::step_lent(
         c,
         image,
         inputs,
@@ -137,11 +146,17 @@ fn step_in_place(
         memory,
         addresses,
         values,
-    );
-    let next = r.core;
-    update(r.number == 0, next, machine);
-    answer(answers, r.cycles);
-    r.number
+    ) {
+        Ok(s) => {
+            update(true, s.after, machine);
+            answer(answers, s.cycles);
+            0
+        },
+        Err(stop) => {
+            answer(answers, 0);
+            stop.number()
+        },
+    }
 }
 
 // One step: 1, 2, 3, 4 to 9, 27, 10 to 15. The next call reads the state that it left.
@@ -199,10 +214,9 @@ fn run_in_place(
         values,
         budget,
     );
-    let next = r.core;
-    update(0 < r.steps, next, machine);
+    update(0 < r.steps, r.after, machine);
     answer_two(answers, r.steps, r.cycles);
-    r.number
+    r.number()
 }
 
 // A run: 1, 2, 3, 16, then the number of the step that ended it. The next call reads the state that it left.
@@ -256,9 +270,16 @@ pub extern "C" fn yam_text(
 ) -> u32
     ensures { printed result page.new answers.new ≡ text_printed config.now word page.old place answers.old }
 {
-    let r = text::text(config_from(config), word, page, place as usize);
-    answer(answers, r.place as u64);
-    r.number
+    match text::text(config_from(config), word, page, place as usize) {
+        Ok(after) => {
+            answer(answers, after as u64);
+            0
+        }
+        Err(why) => {
+            answer(answers, place);
+            why.number()
+        }
+    }
 }
 
 // The listing of an image: 1, 2, 18.
@@ -281,7 +302,10 @@ pub extern "C" fn yam_list(
         place as usize,
     );
     answer_two(answers, r.place as u64, r.next as u64);
-    r.number
+    match r.outcome {
+        Ok(()) => 0,
+        Err(why) => why.number(),
+    }
 }
 
 // Source text read into words: 1, 36, 24, then the first bad line by 26, 25, 6, 7.
@@ -294,9 +318,16 @@ pub extern "C" fn yam_assemble(
 ) -> u32
     ensures { assembled result words.new answers.new ≡ assemble_call config.now text.now words.old answers.old }
 {
-    let r = assembler::assemble(config_from(config), text, words);
-    answer_two(answers, r.count as u64, r.line as u64);
-    r.number
+    match assembler::assemble(config_from(config), text, words) {
+        Ok(count) => {
+            answer_two(answers, count as u64, 0);
+            0
+        }
+        Err(error) => {
+            answer_two(answers, 0, error.line().unwrap_or(0) as u64);
+            error.number()
+        }
+    }
 }
 
 // Loads an image file: 1 where the list for the configuration is not nineteen words long; then 19 to 22, 1 and 2 in document 01's order.
@@ -307,13 +338,13 @@ pub extern "C" fn yam_load(file: &[u8], config: &mut [u32], image: &mut [u32]) -
     if config.len() != flat::CONFIG_WORDS {
         return 1;
     }
-    let r = image::load(file, image);
-    if r.number != 0 {
-        return r.number;
+    match image::load(file, image) {
+        Ok(c) => {
+            config_into(c, config);
+            0
+        }
+        Err(why) => why.number(),
     }
-    let c = r.config;
-    config_into(c, config);
-    0
 }
 
 // Writes an image file: 1, 2, 19.
@@ -321,5 +352,8 @@ pub extern "C" fn yam_load(file: &[u8], config: &mut [u32], image: &mut [u32]) -
 pub extern "C" fn yam_store(config: &[u32], image: &[u32], file: &mut [u8]) -> u32
     ensures { left result file.new ≡ store_call config.now image.now file.old }
 {
-    image::store(config_from(config), image, file)
+    match image::store(config_from(config), image, file) {
+        Ok(()) => 0,
+        Err(why) => why.number(),
+    }
 }

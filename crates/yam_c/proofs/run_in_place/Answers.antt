@@ -6,4 +6,4 @@ use Rattle.yam_c.proofs.Calls.{run_placed}
 use Rattle.yam_c.proofs.run_in_place.Goals as goal
 
 pub returns : goal.returns
-returns c = run_placed (env c.args.c c.args.image.now c.args.inputs.now) c.args.machine.now c.args.registers.now c.args.memory.now c.args.addresses.now c.args.values.now c.requires _ c.core_in-m.ensures _ _ c.args.answers.now _ c.args.budget _ c.run_lent-r.ensures (c.run_lent-r.auto.stack ∙ stack_length c.args.machine.now c.requires) refl c.update.ensures c.answer_two.ensures
+returns c = rw c.number.ensures (run_placed (env c.args.c c.args.image.now c.args.inputs.now) c.args.machine.now c.args.registers.now c.args.memory.now c.args.addresses.now c.args.values.now c.requires _ c.core_in-m.ensures _ _ c.args.answers.now _ c.args.budget _ c.run_lent-r.ensures (c.run_lent-r.auto.stack ∙ stack_length c.args.machine.now c.requires) refl c.update.ensures c.answer_two.ensures)

@@ -4,4 +4,4 @@ use Rattle.yam_c.proofs.flat.answer_two.Goals as goal
 
 pub returns : goal.returns
 unfolding stored
-returns c = rw (c.put_answer-2.ensures, c.put_answer.ensures)
+returns c = rw (c.put-2.ensures, c.put.ensures)

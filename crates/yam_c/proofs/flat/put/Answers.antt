@@ -4,4 +4,4 @@ use lib.Seq.{set_out}
 use Rattle.yam_c.proofs.flat.put.Goals as goal
 
 pub returns-else-i-flat : goal.returns-else-i-flat
-returns-else-i-flat c = sym (set_out _ _ _ c.if-i-flat.false)
+returns-else-i-flat g c = sym (set_out _ _ _ c.if-i-flat.false)

@@ -11,9 +11,6 @@ loop-i-init c = (refl, stored_first _ _ _)
 pub overflow_add-at : goal.overflow_add-at
 overflow_add-at c = omega (arith, c.requires.0, c.requires.1)
 
-pub overflow_add-i : goal.overflow_add-i
-overflow_add-i c = omega (arith, c.requires.1)
-
 pub loop-i-preserved : goal.loop-i-preserved
 loop-i-preserved c = (ap length c.put.ensures ∙ simp length-set c.loop-i.invariant.0, rw c.put.ensures (stored_next _ _ _ _ c.loop-i-test.true ∙ c.loop-i.invariant.1))
 

@@ -1,7 +1,0 @@
--- `yam_c::flat::put_answer` meets its contract. Assumes nothing.
-use mathlib.Core.Path.{sym}
-use lib.Seq.{set_out}
-use Rattle.yam_c.proofs.flat.put_answer.Goals as goal
-
-pub returns-else-i-answers : goal.returns-else-i-answers
-returns-else-i-answers c = sym (set_out _ _ _ c.if-i-answers.false)
