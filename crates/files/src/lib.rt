@@ -1,99 +1,73 @@
-// Writing a page, and reading a file, so that a read that fails is told from the file's end. What
-// cannot be opened, read or written is said on standard error, a line each.
+// Writing a page, and reading a file, so that a read that fails is told from the file's end.
 #![tactic(auto)]
 
-ghost use Rattle.std.specs.Prelude.{◌≤◌};
+ghost use Rattle.std.specs.Prelude.{◌↔◌, ◌<◌, IfOk, IsErrOf, length, take};
+ghost use Rattle.std.specs.Io.KnownBytes.{Consumes, IsAtEnd};
 ghost use Rattle.files.specs.Counts.{IsPrefixLen};
 
 use std::env::FillError;
 use std::fs::File;
-use std::io::{Error, Read};
+use std::io::Read;
 use std::rt::{Env, Files};
+use std::{fmt, io};
 
 // The bytes of the longest argument that is taken: no file has a longer name.
 pub const NAME_BYTES: usize = 4096;
 
-// How many bytes were read, and whether a read failed.
-#[derive(Clone, Copy)]
-pub struct Input {
-    pub bytes: usize,
-    pub failed: bool,
+// Why a program ends without an answer.
+#[derive(Drop)]
+pub enum Failure<'a> {
+    // What could not be opened, read or written, as the caller names it, and why.
+    Io(&'a str, io::Error),
+    // A name that is no UTF-8 cannot be opened.
+    Name,
+    // The answer has no room on its page.
+    Room,
+    // The arguments are not what the program takes, as it says itself.
+    Usage(&'static str),
 }
 
-// Says what failed, as the caller names it, and why. Where that cannot be written, nothing is said.
-pub fn fail(rt: &impl Eprint, what: &str, why: Error) {
-    let _ = eprintln!(rt; "{what}: {why}");
-}
-
-// One read: no bytes at the end of the file, and where it fails, which is said.
-fn read_part(rt: &impl Eprint, name: &str, from: &mut impl Read, to: &mut [u8]) -> Input {
-    match from.read(to) {
-        Ok(bytes) => Input {
-            bytes,
-            failed: false,
-        },
-        Err(why) => {
-            fail(rt, name, why);
-            Input {
-                bytes: 0,
-                failed: true,
-            }
+impl fmt::Display for Failure<'_> {
+    fn fmt<W: fmt::Write>(&self, f: &mut fmt::Formatter<W>) -> fmt::Result {
+        match self {
+            Failure::Io(name, why) => write!(f, "{name}: {why}"),
+            Failure::Name => write!(f, "a file cannot be opened whose name is no UTF-8"),
+            Failure::Room => write!(f, "the answer has no room on its page"),
+            Failure::Usage(text) => write!(f, "{text}"),
         }
     }
 }
 
-// n, or `most` where n is above it.
-fn within(n: usize, most: usize) -> usize
-    ensures { result ≤ most }
-{
-    if n < most { n } else { most }
-}
-
-// Reads until the buffer is full, the file ends or a read fails, which is said under the name.
-pub fn read_all(rt: &impl Eprint, name: &str, from: &mut impl Read, to: &mut [u8]) -> Input
-    ensures { IsPrefixLen result.bytes to.new }
+// Reads until the buffer is full or the reader ends, and answers how many bytes were read.
+pub fn read_all<'a, R: Read>(
+    name: &'a str,
+    from: &mut R,
+    to: &mut [u8],
+) -> Result<usize, Failure<'a>>
+    ensures in_bounds { IfOk result (λ n. IsPrefixLen n to.new) }
+    ensures bytes { IfOk result (λ n. Consumes (R.remaining from.old) (R.remaining from.new) (take n to.new)) }
+    ensures end { IfOk result (λ n. n < length to.new → IsAtEnd (R.remaining from.new)) }
 {
     let mut done = 0;
     while done < to.len() {
-        let left = to.len() - done;
-        let part = read_part(rt, name, from, &mut to[done..]);
-        let n = within(part.bytes, left);
-        if n == 0 {
-            return Input {
-                bytes: done,
-                failed: part.failed,
-            };
+        match from.read(&mut to[done..]) {
+            Ok(0) => break,
+            Ok(n) => done += n,
+            Err(why) => return Err(Failure::Io(name, why)),
         }
-        done += n;
     }
-    Input {
-        bytes: done,
-        failed: false,
-    }
+    Ok(done)
 }
 
-// Reads the named file; what cannot be opened or read is said on standard error. A name that is no
-// UTF-8 cannot be opened.
-pub fn read_file(rt: &(impl Files + Eprint), path: &[u8], to: &mut [u8]) -> Input
-    ensures { IsPrefixLen result.bytes to.new }
+// Reads the named file.
+pub fn read_file<'a>(rt: &impl Files, path: &'a [u8], to: &mut [u8]) -> Result<usize, Failure<'a>>
+    ensures { IfOk result (λ n. IsPrefixLen n to.new) }
 {
     let Ok(name) = str::from_utf8(path) else {
-        let _ = eprintln!(rt; "a file cannot be opened whose name is no UTF-8");
-        return Input {
-            bytes: 0,
-            failed: true,
-        };
+        return Err(Failure::Name);
     };
-    match File::open(rt, name) {
-        Ok(mut file) => read_all(rt, name, &mut file, to),
-        Err(why) => {
-            fail(rt, name, why);
-            Input {
-                bytes: 0,
-                failed: true,
-            }
-        }
-    }
+    let mut file = File::open(rt, name).map_err(|why| Failure::Io(name, why))?;
+    read_all(name, &mut file, to)
 }
 
 // How many arguments the program was started with, its own name among them.
@@ -106,33 +80,21 @@ pub fn argument_count(rt: &impl Env) -> usize {
     usize::MAX
 }
 
-// Puts an argument at the buffer's start. Failed is where there is none, or no room for it.
-pub fn argument(rt: &impl Env, i: usize, to: &mut [u8]) -> Input
-    ensures { IsPrefixLen result.bytes to.new }
+// Puts an argument at the buffer's start, and answers its length.
+pub fn argument(rt: &impl Env, i: usize, to: &mut [u8]) -> Result<usize, FillError>
+    ensures { IfOk result (λ n. IsPrefixLen n to.new) }
 {
-    match rt.arg(i, to) {
-        Ok(bytes) => Input {
-            bytes,
-            failed: false,
-        },
-        Err(_) => Input {
-            bytes: 0,
-            failed: true,
-        },
-    }
+    rt.arg(i, to)
 }
 
-// Writes the first so many bytes of a page to standard output, and says on standard error where
-// that fails. A place beyond the page, which its writers answer where they had no room, writes
-// nothing there.
-pub fn print(rt: &(impl Print + Eprint), page: &[u8], bytes: usize) -> bool {
+// Writes the first so many bytes of a page to standard output. A place beyond the page, which its
+// writers answer where they had no room, writes nothing.
+pub fn print(rt: &impl Print, page: &[u8], bytes: usize) -> Result<(), Failure<'static>>
+    ensures { IsErrOf result Failure.Room ↔ (length page.now < bytes) }
+{
     if page.len() < bytes {
-        let _ = eprintln!(rt; "the answer has no room on its page");
-        return false;
+        return Err(Failure::Room);
     }
-    if let Err(why) = rt.write_all(&page[..bytes]) {
-        fail(rt, "standard output", why);
-        return false;
-    }
-    true
+    rt.write_all(&page[..bytes])
+        .map_err(|why| Failure::Io("standard output", why))
 }

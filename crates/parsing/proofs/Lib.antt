@@ -1,3 +1,4 @@
+pub mod Cuts
 pub mod FromOne
 pub mod Printed
 pub mod RoundTrip

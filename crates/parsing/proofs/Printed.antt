@@ -3,7 +3,6 @@ use Prim.Native.Nat.{ℕ, zero, suc, ◌+◌, ◌<◌, ◌≤◌}
 use mathlib.Core.Path.{◌≡◌, refl, sym, ap, ◌∙◌}
 use mathlib.Core.Bool.{Bool, true, false, not, ◌&&◌}
 use mathlib.Core.List.{List, [], ◌∷◌, ◌++◌}
-use native.Mathlib.Numerals.{add-one}
 use native.Mathlib.Omega.{arith}
 use borrow.Author.Tests.{not-true}
 use lib.Dec.{T, eqb, eqb→eq}
@@ -13,11 +12,12 @@ use Rattle.laws.specs.Choice.{pick, is_true}
 use Rattle.laws.specs.Lists.{all}
 use Rattle.laws.specs.Table.{every, at_every, values}
 use Rattle.syntax.specs.Lines.{newline, onto}
-use Rattle.parsing.specs.declared.Kind.TheVariants.{Name}
-use Rattle.parsing.specs.Decimals.{number, value_of}
-use Rattle.parsing.specs.Entries.{is_blank, equals, ended, entries_of, is_of, run_of, name_in, value_in}
+use Rattle.std.specs.Prelude.{Some}
+use Rattle.std.specs.List.{position_or_len}
+use Rattle.parsing.specs.Decimals.{value_of}
+use Rattle.parsing.specs.Entries.{is_blank, equals, ended, entries_of, name_in, value_in}
 use Rattle.parsing.specs.Generics.{generic_count, generics, names, place_of, given, given_by, all as every_value, gather}
-use Rattle.parsing.proofs.entries.Laws.{run_first, run_none, entries_blank, entries_one, entries_onto}
+use Rattle.parsing.proofs.entries.Laws.{entries_blank, entries_one, entries_onto}
 use Rattle.parsing.proofs.naming.Laws.{first}
 
 abbrev pub filled : ℕ → Bool
@@ -41,33 +41,38 @@ line_entry b (d ∷ e) t h =
 
 -- NAME=VALUE
 
-name_run : (s t : List ℕ) → all (is_of Name) s ≡ true → run_of Name (s ++ (equals ∷ t)) ≡ length s
-name_run [] t h = run_none Name equals t refl
+-- a byte of a name
+within_name : ℕ → Bool
+within_name b = not (eqb b equals)
+
+name_run : (s t : List ℕ) → all within_name s ≡ true → position_or_len (λ b. eqb b equals) (s ++ (equals ∷ t)) ≡ length s
+unfolding within_name
+name_run [] t h = refl
 name_run (b ∷ s) t h =
-    let p = both (is_of Name b) (all (is_of Name) s) h in
-    run_first Name b (s ++ (equals ∷ t)) p.0 ∙ ap suc (name_run s t p.1)
+    let p = both (within_name b) (all within_name s) h in
+    rw (p.0, name_run s t p.1) (omega arith)
 
 plain : ℕ → Bool
-plain k = all (is_of Name) (get_or names k [])
+plain k = all within_name (get_or names k [])
 
 placed : ℕ → Bool
 placed k = eqb (place_of names (get_or names k [])) k
 
 all_plain : T (every generic_count plain)
-unfolding plain names generics
+unfolding plain within_name names generics
 all_plain = tt
 
 all_placed : T (every generic_count placed)
 unfolding placed names generics place_of pick
 all_placed = tt
 
-pub entry_back : (k v : ℕ) (d : List ℕ) → k < generic_count → value_of d ≡ number v → given_by (get_or names k [] ++ (equals ∷ d)) ≡ given k v
+pub entry_back : (k v : ℕ) (d : List ℕ) → k < generic_count → value_of d ≡ Some v → given_by (get_or names k [] ++ (equals ∷ d)) ≡ given k v
 unfolding given_by name_in value_in plain placed
 entry_back k v d h e =
     let s = get_or names k [] in
     let r = name_run s d (is_true (plain k) (at_every generic_count plain k all_plain h)) in
     let p : place_of names s ≡ k = eqb→eq (place_of names s) k (at_every generic_count placed k all_placed h) in
-    let x : drop (suc (length s)) (s ++ (equals ∷ d)) ≡ d = ap (λ (n : ℕ). drop n (s ++ (equals ∷ d))) (sym (add-one (length s))) ∙ drop-append-add s (equals ∷ d) 1 in
+    let x : drop (length s + 1) (s ++ (equals ∷ d)) ≡ d = drop-append-add s (equals ∷ d) 1 in
     rw (r, take-append_seam s (equals ∷ d), x, p, e)
 
 -- Each generic once, in their order

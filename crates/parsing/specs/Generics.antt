@@ -1,13 +1,13 @@
 -- The generics that the entries of a CONFIG name: docs/commands.md, 'yam pack' and 'yam config'.
-use Rattle.std.specs.Prelude.{ℕ, suc, Bool, true, false, not, ◌&&◌, List, [], ◌∷◌, ltb, get_or, set, replicate}
+use Rattle.std.specs.Prelude.{ℕ, suc, Bool, true, false, not, ◌&&◌, List, [], ◌∷◌, Option, Some, None, Result, Ok, Err, ltb, get_or, set, replicate}
 use Prim.Native.String.{String}
 use Rattle.laws.specs.Choice.{pick}
 use Rattle.laws.specs.Lists.{column}
 use Rattle.syntax.specs.Quoted.{quoted}
 use Rattle.syntax.specs.Pieces.{equal}
 use Rattle.words.specs.declared.Config.{Config}
-use Rattle.parsing.specs.declared.Generics.{Generics}
-use Rattle.parsing.specs.Decimals.{Number, number, none, value_of}
+use Rattle.parsing.specs.declared.BadEntry.{BadEntry}
+use Rattle.parsing.specs.Decimals.{value_of}
 use Rattle.parsing.specs.Entries.{entries_of, name_in, value_in}
 
 -- a generic's name, and "the manual's default (2.2)"
@@ -88,9 +88,9 @@ pub record Given : Type 0 where
 abbrev pub given : ℕ → ℕ → Given
 given k v = record { place = k; value = v }
 
-abbrev pub giving : ℕ → Number → Given
-giving k (number v) = given k v
-giving k none = given generic_count 0
+abbrev pub giving : ℕ → Option ℕ → Given
+giving k (Some v) = given k v
+giving k None = given generic_count 0
 
 unfoldable pub given_by : List ℕ → Given
 given_by e = giving (place_of names (name_in e)) (value_of (value_in e))
@@ -114,7 +114,7 @@ gather n marks vs (e ∷ es) =
 unfoldable pub gathered_in : List ℕ → Gathered
 gathered_in t = gather 0 (replicate generic_count false) defaults (entries_of t)
 
--- as the call answers it: beside a malformed entry the configuration is that of the empty text
-abbrev pub generics_of : Gathered → Generics
-generics_of (all vs) = record { entry = 0; config = config_of vs }
-generics_of (malformed k) = record { entry = k; config = config_of defaults }
+-- as the call answers it
+abbrev pub generics_of : Gathered → Result Config BadEntry
+generics_of (all vs) = Ok (config_of vs)
+generics_of (malformed k) = Err (record { entry = k })

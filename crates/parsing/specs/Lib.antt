@@ -1,5 +1,6 @@
 pub mod Decimals
 pub mod Words
+pub mod Numbers
 pub mod Entries
 pub mod Generics
 pub mod Claims

@@ -1,9 +1,10 @@
 -- A text of words, one a line: docs/commands.md, the inputs of 'yam run' and WORDS of 'yam pack'.
-use Rattle.std.specs.Prelude.{ℕ, suc, ◌+◌, ◌-◌, ◌*◌, ◌&&◌, List, [], ◌∷◌, ◌++◌, eqb, leb, ltb, length}
+use Rattle.std.specs.Prelude.{ℕ, suc, ◌+◌, ◌-◌, ◌*◌, ◌&&◌, List, [], ◌∷◌, ◌++◌, Result, Ok, Err, eqb, leb, ltb, length}
 use Rattle.std.proofs.lemmas.List.Edits.{sets}
 use Rattle.laws.specs.Choice.{pick}
 use Rattle.syntax.specs.Digits.{hex}
 use Rattle.syntax.specs.Lines.{newline}
+use Rattle.parsing.specs.declared.BadLine.{BadLine}
 use Rattle.parsing.specs.Decimals.{is_digit}
 
 -- what a text gives
@@ -36,16 +37,15 @@ words_in t = words_from 0 0 t
 -- What a call answers and leaves in the words lent: how many words the text has, and as many of them as there is room for, from place 0 on; or the bad line,
 -- and the words as they were.
 pub record Call : Type 0 where
-  pub count : ℕ
-  pub line : ℕ
+  pub answer : Result ℕ BadLine
   pub words : List ℕ
 
-abbrev pub call : ℕ → ℕ → List ℕ → Call
-call n k ws = record { count = n; line = k; words = ws }
+abbrev pub call : Result ℕ BadLine → List ℕ → Call
+call r ws = record { answer = r; words = ws }
 
 abbrev pub call_of : Reading → List ℕ → Call
-call_of (good ws) lent = call (length ws) 0 (sets lent 0 ws)
-call_of (bad k) lent = call 0 k lent
+call_of (good ws) lent = call (Ok (length ws)) (sets lent 0 ws)
+call_of (bad k) lent = call (Err (record { line = k })) lent
 
 -- words as such a text, hex 8
 unfoldable pub printed : List ℕ → List ℕ

@@ -1,77 +1,26 @@
 // Decimal numbers.
-ghost use Rattle.std.specs.Prelude.{◌≡◌, ◌+◌, ◌≤◌, ◌<◌};
-ghost use Rattle.parsing.specs.Decimals.{is_digit, decimal_of, value_of, most_value, capped, answered};
+ghost use Rattle.std.specs.Prelude.{◌≡◌};
+ghost use Rattle.parsing.specs.Decimals.{decimal_of, value_of, answered};
 
-use crate::Decimal;
+use crate::numbers::{digits_of, number_of};
 
-// What a number above it is answered as.
-const LIMIT: u64 = 4294967296;
+const BASE: u32 = 10;
 
 const MOST_DIGITS: usize = 10;
 
-const MOST_VALUE: u64 = 4294967295;
-
-pub const DIGIT_0: u8 = 48;
-
-pub const DIGIT_9: u8 = 57;
-
-pub fn is_digit(b: u8) -> bool
-    ensures { result ≡ is_digit b }
-{
-    (DIGIT_0 <= b) & (b <= DIGIT_9)
-}
-
-fn cap(n: u64) -> u64
-    ensures { result ≡ capped n }
-{
-    if n < LIMIT { n } else { LIMIT }
-}
-
-// The number that a text is: one digit or more, and nothing else.
-pub fn decimal_of(text: &[u8]) -> Decimal
+// The number that a text is, or 2^32 where it is above that: one digit or more, and nothing else.
+pub fn decimal_of(text: &[u8]) -> Option<u64>
     ensures { result ≡ answered (decimal_of text.now) }
 {
-    if text.len() == 0 {
-        return Decimal {
-            valid: false,
-            value: 0,
-        };
+    if text.is_empty() {
+        return None;
     }
-    let mut v: u64 = 0;
-    let mut i = 0;
-    while i < text.len() {
-        let b = text[i];
-        if !is_digit(b) {
-            return Decimal {
-                valid: false,
-                value: 0,
-            };
-        }
-        v = cap(10 * v + (b - DIGIT_0) as u64);
-        i += 1;
-    }
-    Decimal {
-        valid: true,
-        value: v,
-    }
+    digits_of(text, BASE)
 }
 
 // The same, of at most 10 digits and at most 4,294,967,295.
-pub fn value_of(text: &[u8]) -> Decimal
-    ensures { (result ≡ answered (value_of text.now)) × (result.value ≤ most_value) }
+pub fn value_of(text: &[u8]) -> Option<u32>
+    ensures { result ≡ value_of text.now }
 {
-    if MOST_DIGITS < text.len() {
-        return Decimal {
-            valid: false,
-            value: 0,
-        };
-    }
-    let d = decimal_of(text);
-    if MOST_VALUE < d.value {
-        return Decimal {
-            valid: false,
-            value: 0,
-        };
-    }
-    d
+    number_of(text, BASE, MOST_DIGITS)
 }

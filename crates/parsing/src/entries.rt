@@ -1,53 +1,18 @@
-// The entries of a text, and what one gives.
-ghost use Rattle.std.specs.Prelude.{◌≡◌, suc, ◌≤◌, ◌<◌, length, drop};
-ghost use Rattle.parsing.specs.Entries.{is_blank, is_of, run_of, value_in};
-ghost use Rattle.parsing.specs.Claims.{Next};
+// The parts of an entry.
+ghost use Rattle.std.specs.Prelude.{◌≡◌, [], MatchOption};
+ghost use Rattle.parsing.specs.Entries.{is_blank, name_in, value_in};
 
-use crate::{Kind, Span};
-
-const NEWLINE: u8 = 10;
-
-const SPACE: u8 = 32;
-
-const EQUALS: u8 = 61;
-
-fn is_of(k: Kind, b: u8) -> bool
-    ensures { result ≡ is_of k b }
+// Whether a byte stands between entries.
+pub fn is_blank(b: u8) -> bool
+    ensures { result ≡ is_blank b }
 {
-    match k {
-        Kind::Blank => (b == SPACE) | (b == NEWLINE),
-        Kind::Filled => !((b == SPACE) | (b == NEWLINE)),
-        Kind::Name => b != EQUALS,
-    }
+    (b == b' ') | (b == b'\n')
 }
 
-// How many bytes of a kind a text starts with.
-pub fn run(t: &[u8], k: Kind) -> usize
-    ensures { (result ≡ run_of k t.now) × (result ≤ length t.now) }
+// What stands in an entry before its first "=", and what behind it; none where it has none.
+pub fn halves(entry: &[u8]) -> Option<(&[u8], &[u8])>
+    ensures { MatchOption result (value_in entry.now ≡ []) (λ p. (p.0.now ≡ name_in entry.now) × (p.1.now ≡ value_in entry.now)) }
 {
-    let mut j = 0;
-    while j < t.len() {
-        if !is_of(k, t[j]) {
-            return j;
-        }
-        j += 1;
-    }
-    j
-}
-
-// The next entry from `from` on; an empty one at the text's end where there is none.
-pub fn next_entry(text: &[u8], from: usize) -> Span
-    requires { from ≤ length text.now }
-    ensures { Next text.now from result }
-{
-    let start = from + run(&text[from..], Kind::Blank);
-    let end = start + run(&text[start..], Kind::Filled);
-    Span { start, end }
-}
-
-// Where VALUE starts in an entry whose NAME has n bytes.
-pub fn value_start(e: &[u8], n: usize) -> usize
-    ensures { (drop result e.now ≡ drop (suc n) e.now) × (result ≤ length e.now) }
-{
-    if n < e.len() { n + 1 } else { e.len() }
+    let n = entry.iter().position(|b| *b == b'=')?;
+    Some((&entry[..n], &entry[n + 1..]))
 }

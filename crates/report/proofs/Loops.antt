@@ -1,117 +1,135 @@
 -- Writers in a loop: what is left to put, from here, puts the whole. Assumes nothing.
-use Prim.Native.Nat.{ℕ, ◌+◌, ◌<◌, ◌≤◌}
+use Prim.Native.Nat.{ℕ, ◌+◌, ◌<◌, ◌≤◌, min}
 use mathlib.Core.Path.{◌≡◌, refl, sym, ap, subst, ◌∙◌}
-use mathlib.Core.Logic.{◌⊎◌, inl, inr}
-use mathlib.Core.List.{List, [], ◌∷◌, ◌++◌}
+use mathlib.Core.Bool.{Bool, true, false}
+use mathlib.Core.List.{List, [], ◌∷◌, ◌++◌, map}
 use native.Mathlib.Numerals.{add-one}
+use native.Mathlib.Nat.{add-zero}
 use native.Mathlib.Omega.{arith}
-use lib.ListN.{length, get_or, drop, drop_of_length-le}
+use borrow.Author.Tests.{leb-true, leb-false}
+use denote.Ref.{Bor}
+use lib.Dec.{leb}
+use lib.ListN.{length, get_or, drop, drop_of_length-le, length-append, length-map}
 use lib.Seq.{drop-cons}
-use Rattle.printing.specs.Puts.{Puts}
-use Rattle.printing.proofs.Puts.{nothing, puts_then}
-use Rattle.syntax.specs.Digits.{hex}
-use Rattle.report.specs.Fields.{change_text}
-use Rattle.report.specs.Cells.{Common, each_cell, each_pair, register_text, registers_from, cell_changes}
+use Rattle.std.proofs.Common.{Option, Some, None}
+use Rattle.std.proofs.iter.Yields.{fronts}
+use Rattle.std.proofs.lemmas.Iterator.{zips}
+use Rattle.std.proofs.lemmas.Slice.Zip.{zip_turn, zip_end}
+use Rattle.std.specs.declared.iter.Zip.{Zip}
+use Rattle.std.specs.declared.iter.Enumerate.{Enumerate}
+use Rattle.std.specs.declared.slice.Iter.{Iter}
+use Rattle.std.specs.Iterator.{Yields}
+use Rattle.std.specs.Iterator.Adapters.{zip_first, zip_second, enumerate_source, enumerate_count, enumerate_steps}
+use Rattle.std.specs.Slice.Iter.{iter_rest}
+use Rattle.printing.specs.declared.printer.Printer.{Printer}
+use Rattle.printing.specs.Printers.{Prints}
+use Rattle.printing.proofs.Printers.{prints_nothing, prints_then, prints_as}
 
-abbrev pub Leads : List ℕ → ℕ → List ℕ → List ℕ → ℕ → List ℕ → Type 0
-Leads p₀ at₀ whole p at rest = (r : ℕ) (q : List ℕ) → Puts p at rest r q → Puts p₀ at₀ whole r q
+-- what is put for each item, numbered from i on
+abbrev pub listed : {A : Type 0} → (ℕ → A → List ℕ) → ℕ → List A → List ℕ
+listed f i [] = []
+listed f i (x ∷ xs) = f i x ++ listed f (i + 1) xs
 
-pub starts : (p : List ℕ) (at : ℕ) (whole : List ℕ) → Leads p at whole p at whole
-starts p at whole r q h = h
+-- the same for the pairs of two lists
+abbrev pub zipped : {A B : Type 0} → (ℕ → A → B → List ℕ) → ℕ → List A → List B → List ℕ
+zipped f i [] ys = []
+zipped f i (x ∷ xs) [] = []
+zipped f i (x ∷ xs) (y ∷ ys) = f i x y ++ zipped f (i + 1) xs ys
 
-goes : {p₀ p q : List ℕ} {at₀ at m : ℕ} {whole item rest : List ℕ} → Leads p₀ at₀ whole p at (item ++ rest) → Puts p at item m q → Leads p₀ at₀ whole q m rest
-goes l h r q k = l r q (puts_then h k)
+abbrev pub Leads : Printer → List ℕ → Printer → List ℕ → Type 0
+Leads a whole b rest = (c : Printer) → Prints b rest c → Prints a whole c
 
-done : {p₀ p : List ℕ} {at₀ at : ℕ} {whole rest : List ℕ} → rest ≡ [] → Leads p₀ at₀ whole p at rest → Puts p₀ at₀ whole at p
-done {p₀} {p} {at₀} {at} {whole} {rest} e l = l at p (rw e (nothing p at))
+goes : {a b c : Printer} {whole item rest : List ℕ} → Leads a whole b (item ++ rest) → Prints b item c → Leads a whole c rest
+goes l h d k = l d (prints_then h k)
 
--- the list from i on is its cell at i and the rest
-from : (xs : List ℕ) (i : ℕ) → i < length xs → drop i xs ≡ get_or xs i 0 ∷ drop (i + 1) xs
-from xs i h = rw add-one (drop-cons xs i 0 h)
+done : {a b : Printer} {whole rest : List ℕ} → rest ≡ [] → Leads a whole b rest → Prints a whole b
+done {a} {b} e l = l b (prints_as (sym e) (prints_nothing b))
 
-no_pair : (before : List ℕ) (w : ℕ) (between after ns : List ℕ) → each_pair before w between after ns [] ≡ []
-unfolding each_pair
-no_pair before w between after [] = refl
-no_pair before w between after (a ∷ ns) = refl
+-- the list from i on is its item at i and the rest
+from : {A : Type 0} (xs : List A) (i : ℕ) (d : A) → i < length xs → drop i xs ≡ get_or xs i d ∷ drop (i + 1) xs
+from xs i d h = rw add-one (drop-cons xs i d h)
 
-no_change : (mark : List ℕ) (d w i : ℕ) (old : List ℕ) → cell_changes mark d w i old [] ≡ []
-unfolding cell_changes
-no_change mark d w i [] = refl
-no_change mark d w i (x ∷ xs) = refl
+module _ {a : Printer} {whole : List ℕ} where
+  pub each_on : {A : Type 0} (f : ℕ → A → List ℕ) (xs : List A) (i : ℕ) (d : A) {b c : Printer} → i < length xs → Leads a whole b (listed f i (drop i xs)) →
+      Prints b (f i (get_or xs i d)) c → Leads a whole c (listed f (i + 1) (drop (i + 1) xs))
+  each_on {A} f xs i d {b} h l k = goes (subst (λ (z : List A). Leads a whole b (listed f i z)) (from xs i d h) l) k
 
--- past the cells that both lists have
-pub both_past : (a b n i : ℕ) → Common a b n → n ≤ i → (a ≤ i) ⊎ (b ≤ i)
-both_past a b n i c h = go c.one
+  pub each_done : {A : Type 0} (f : ℕ → A → List ℕ) (xs : List A) (i : ℕ) {b : Printer} → length xs ≤ i → Leads a whole b (listed f i (drop i xs)) → Prints a whole b
+  each_done f xs i h l = done (ap (listed f i) (drop_of_length-le xs h)) l
+
+  -- the pairs of two lists, by position
+  pair_on : {A B : Type 0} (f : ℕ → A → B → List ℕ) (xs : List A) (ys : List B) (i : ℕ) (x : A) (y : B) {b c : Printer} → i < length xs → i < length ys →
+      x ≡ get_or xs i x → y ≡ get_or ys i y → Leads a whole b (zipped f i (drop i xs) (drop i ys)) → Prints b (f i x y) c →
+      Leads a whole c (zipped f (i + 1) (drop (i + 1) xs) (drop (i + 1) ys))
+  pair_on {A} {B} f xs ys i x y {b} h g p q l k =
+      let s : drop i xs ≡ x ∷ drop (i + 1) xs = from xs i x h ∙ ap (λ (z : A). z ∷ drop (i + 1) xs) (sym p) in
+      let t : drop i ys ≡ y ∷ drop (i + 1) ys = from ys i y g ∙ ap (λ (z : B). z ∷ drop (i + 1) ys) (sym q) in
+      goes (subst (λ (z : List B). Leads a whole b (zipped f i (x ∷ drop (i + 1) xs) z)) t (subst (λ (z : List A). Leads a whole b (zipped f i z (drop i ys))) s l)) k
+
+none_left : {A B : Type 0} (f : ℕ → A → B → List ℕ) (xs : List A) (ys : List B) (i : ℕ) → i ≡ min (length xs) (length ys) → zipped f i (drop i xs) (drop i ys) ≡ []
+none_left f xs ys i e = go (leb (length xs) i) refl
   where
-    go : (a ≤ n) ⊎ (b ≤ n) → (a ≤ i) ⊎ (b ≤ i)
-    go (inl k) = inl (omega arith)
-    go (inr k) = inr (omega arith)
+    no_second : {A B : Type 0} (g : ℕ → A → B → List ℕ) (j : ℕ) (us : List A) → zipped g j us [] ≡ []
+    no_second g j [] = refl
+    no_second g j (u ∷ us) = refl
 
-pub shorter : (a b : ℕ) → a < b → Common a b a
-shorter a b h = record { left = omega arith; right = omega arith; one = inl (omega arith) }
+    go : (b : Bool) → leb (length xs) i ≡ b → zipped f i (drop i xs) (drop i ys) ≡ []
+    go true h = ap (λ z. zipped f i z (drop i ys)) (drop_of_length-le xs (leb-true (length xs) i h))
+    go false h =
+        let k = leb-false (length xs) i h in
+        ap (zipped f i (drop i xs)) (drop_of_length-le ys (omega arith)) ∙ no_second f i (drop i xs)
 
-pub not_shorter : (a b : ℕ) → b ≤ a → Common a b b
-not_shorter a b h = record { left = h; right = omega arith; one = inr (omega arith) }
+-- a loop over a `zip` of two slices
+module _ {A B : Type 0} {a : Printer} {whole : List ℕ} (f : ℕ → A → B → List ℕ) (xs : List A) (ys : List B) (yielded : List (Bor A × Bor B)) where
+  pub zip_on : (s t u : Zip (Iter A) (Iter B)) (r : Option (Bor A × Bor B)) {b c : Printer} → iter_rest (zip_first s) ≡ xs → iter_rest (zip_second s) ≡ ys →
+      Yields (zips fronts fronts) s yielded t → (p : Bor A × Bor B) → r ≡ Some p → zips fronts fronts t r u →
+      Leads a whole b (zipped f (length yielded) (drop (length yielded) xs) (drop (length yielded) ys)) → Prints b (f (length yielded) p.0.now p.1.now) c →
+      Leads a whole c (zipped f (length (yielded ++ p ∷ [])) (drop (length (yielded ++ p ∷ [])) xs) (drop (length (yielded ++ p ∷ [])) ys))
+  zip_on s t u r {b} {c} first second y p is steps l k =
+      let turn = zip_turn xs ys yielded s t u r first second y p is steps in
+      let long : length yielded + 1 ≡ length (yielded ++ p ∷ []) = sym (length-append yielded (p ∷ [])) in
+      subst (λ (n : ℕ). Leads a whole c (zipped f n (drop n xs) (drop n ys))) long
+      (pair_on f xs ys (length yielded) p.0.now p.1.now turn.0 turn.1 (turn.2 _) (turn.3 _) l k)
 
-module _ {p₀ : List ℕ} {at₀ : ℕ} {whole : List ℕ} where
-  -- each cell
-  pub cells_on : (before : List ℕ) (w : ℕ) (after cells : List ℕ) (i : ℕ) {p q : List ℕ} {at m : ℕ} → i < length cells →
-      Leads p₀ at₀ whole p at (each_cell before w after (drop i cells)) → Puts p at (before ++ (hex w (get_or cells i 0) ++ after)) m q →
-      Leads p₀ at₀ whole q m (each_cell before w after (drop (i + 1) cells))
-  unfolding each_cell
-  cells_on before w after cells i {p} {q} {at} h l k =
-      goes (subst (λ (z : List ℕ). Leads p₀ at₀ whole p at (each_cell before w after z)) (from cells i h) l) k
+  pub zip_done : (s t u : Zip (Iter A) (Iter B)) (r : Option (Bor A × Bor B)) {b : Printer} → iter_rest (zip_first s) ≡ xs → iter_rest (zip_second s) ≡ ys →
+      Yields (zips fronts fronts) s yielded t → r ≡ None → zips fronts fronts t r u →
+      Leads a whole b (zipped f (length yielded) (drop (length yielded) xs) (drop (length yielded) ys)) → Prints a whole b
+  zip_done s t u r first second y is steps l = done (none_left f xs ys (length yielded) (zip_end xs ys yielded s t u r first second y is steps)) l
 
-  pub cells_done : (before : List ℕ) (w : ℕ) (after cells : List ℕ) (i : ℕ) {p : List ℕ} {at : ℕ} → length cells ≤ i →
-      Leads p₀ at₀ whole p at (each_cell before w after (drop i cells)) → Puts p₀ at₀ whole at p
-  unfolding each_cell
-  cells_done before w after cells i h l = done (rw (drop_of_length-le cells h)) l
+-- the same where the pairs are numbered
 
-  -- the register memory
-  pub registers_on : (d w : ℕ) (cells : List ℕ) (i : ℕ) {p q : List ℕ} {at m : ℕ} → i < length cells →
-      Leads p₀ at₀ whole p at (registers_from d w i (drop i cells)) → Puts p at (register_text d w i (get_or cells i 0)) m q →
-      Leads p₀ at₀ whole q m (registers_from d w (i + 1) (drop (i + 1) cells))
-  unfolding registers_from
-  registers_on d w cells i {p} {q} {at} {m} h l k =
-      subst (λ (z : ℕ). Leads p₀ at₀ whole q m (registers_from d w z (drop (i + 1) cells))) (sym (add-one i))
-      (goes (subst (λ (z : List ℕ). Leads p₀ at₀ whole p at (registers_from d w i z)) (from cells i h) l) k)
+pairs_of : {A S : Type 0} (steps : S → Option A → S → Type 0) (s t : Enumerate S) (xs : List (ℕ × A)) → Yields (enumerate_steps steps) s xs t →
+    Yields steps (enumerate_source s) (map (λ p. p.1) xs) (enumerate_source t) × (enumerate_count t ≡ enumerate_count s + length xs)
+pairs_of steps s t [] e = (ap enumerate_source e, simp add-zero (ap enumerate_count (sym e)))
+pairs_of steps s t (x ∷ xs) (j, e, rest) =
+    let b = pairs_of steps j t xs rest in
+    ((enumerate_source j, e.0, b.0), omega (arith, b.1, e.2))
 
-  pub registers_done : (d w : ℕ) (cells : List ℕ) (i : ℕ) {p : List ℕ} {at : ℕ} → length cells ≤ i →
-      Leads p₀ at₀ whole p at (registers_from d w i (drop i cells)) → Puts p₀ at₀ whole at p
-  unfolding registers_from
-  registers_done d w cells i h l = done (rw (drop_of_length-le cells h)) l
+module _ {A B : Type 0} {a : Printer} {whole : List ℕ} (f : ℕ → A → B → List ℕ) (xs : List A) (ys : List B) (yielded : List (ℕ × (Bor A × Bor B))) where
+  pub numbered_on : (s t u : Enumerate (Zip (Iter A) (Iter B))) (r : Option (ℕ × (Bor A × Bor B))) {b c : Printer} → iter_rest (zip_first (enumerate_source s)) ≡ xs →
+      iter_rest (zip_second (enumerate_source s)) ≡ ys → enumerate_count s ≡ 0 → Yields (enumerate_steps (zips fronts fronts)) s yielded t →
+      (p : ℕ × (Bor A × Bor B)) → r ≡ Some p → enumerate_steps (zips fronts fronts) t r u →
+      Leads a whole b (zipped f (length yielded) (drop (length yielded) xs) (drop (length yielded) ys)) → Prints b (f p.0 p.1.0.now p.1.1.now) c →
+      Leads a whole c (zipped f (length (yielded ++ p ∷ [])) (drop (length (yielded ++ p ∷ [])) xs) (drop (length (yielded ++ p ∷ [])) ys))
+  numbered_on s t u r {b} {c} first second start y p is steps l k =
+      let z : enumerate_steps (zips fronts fronts) t (Some p) u = subst (λ v. enumerate_steps (zips fronts fronts) t v u) is steps in
+      let q = pairs_of (zips fronts fronts) s t yielded y in
+      let n : length (map (λ v. v.1) yielded) ≡ length yielded = length-map yielded (λ v. v.1) in
+      let turn = zip_turn xs ys (map (λ v. v.1) yielded) (enumerate_source s) (enumerate_source t) (enumerate_source u) (Some p.1) first second q.0 p.1 refl z.0 in
+      let number : p.0 ≡ length yielded = omega (arith, z.1, q.1, start) in
+      let long : length yielded + 1 ≡ length (yielded ++ p ∷ []) = sym (length-append yielded (p ∷ [])) in
+      let put : Prints b (f (length yielded) p.1.0.now p.1.1.now) c = subst (λ (m : ℕ). Prints b (f m p.1.0.now p.1.1.now) c) number k in
+      subst (λ (m : ℕ). Leads a whole c (zipped f m (drop m xs) (drop m ys))) long
+      (pair_on f xs ys (length yielded) p.1.0.now p.1.1.now (subst (λ (m : ℕ). m < length xs) n turn.0) (subst (λ (m : ℕ). m < length ys) n turn.1)
+      (subst (λ (m : ℕ). p.1.0.now ≡ get_or xs m p.1.0.now) n (turn.2 _)) (subst (λ (m : ℕ). p.1.1.now ≡ get_or ys m p.1.1.now) n (turn.3 _)) l put)
 
-  -- the log
-  pub pairs_on : (before : List ℕ) (w : ℕ) (between after ns vs : List ℕ) (i : ℕ) {p q : List ℕ} {at m : ℕ} → i < length ns → i < length vs →
-      Leads p₀ at₀ whole p at (each_pair before w between after (drop i ns) (drop i vs)) →
-      Puts p at (before ++ (hex w (get_or ns i 0) ++ (between ++ (hex w (get_or vs i 0) ++ after)))) m q →
-      Leads p₀ at₀ whole q m (each_pair before w between after (drop (i + 1) ns) (drop (i + 1) vs))
-  unfolding each_pair
-  pairs_on before w between after ns vs i {p} {q} {at} h g l k =
-      goes (subst (λ (z : List ℕ). Leads p₀ at₀ whole p at (each_pair before w between after (get_or ns i 0 ∷ drop (i + 1) ns) z)) (from vs i g)
-      (subst (λ (z : List ℕ). Leads p₀ at₀ whole p at (each_pair before w between after z (drop i vs))) (from ns i h) l)) k
-
-  pub pairs_done : (before : List ℕ) (w : ℕ) (between after ns vs : List ℕ) (i : ℕ) {p : List ℕ} {at : ℕ} → (length ns ≤ i) ⊎ (length vs ≤ i) →
-      Leads p₀ at₀ whole p at (each_pair before w between after (drop i ns) (drop i vs)) → Puts p₀ at₀ whole at p
-  unfolding each_pair
-  pairs_done before w between after ns vs i (inl h) l = done (rw (drop_of_length-le ns h)) l
-  pairs_done before w between after ns vs i (inr h) l =
-      done (ap (each_pair before w between after (drop i ns)) (drop_of_length-le vs h) ∙ no_pair before w between after (drop i ns)) l
-
-  -- cells that changed
-  pub changes_on : (mark : List ℕ) (d w : ℕ) (old new : List ℕ) (i : ℕ) {p q : List ℕ} {at m : ℕ} → i < length old → i < length new →
-      Leads p₀ at₀ whole p at (cell_changes mark d w i (drop i old) (drop i new)) →
-      Puts p at (change_text (mark ++ hex d i) (hex w (get_or new i 0)) (get_or old i 0) (get_or new i 0)) m q →
-      Leads p₀ at₀ whole q m (cell_changes mark d w (i + 1) (drop (i + 1) old) (drop (i + 1) new))
-  unfolding cell_changes
-  changes_on mark d w old new i {p} {q} {at} {m} h g l k =
-      subst (λ (z : ℕ). Leads p₀ at₀ whole q m (cell_changes mark d w z (drop (i + 1) old) (drop (i + 1) new))) (sym (add-one i))
-      (goes (subst (λ (z : List ℕ). Leads p₀ at₀ whole p at (cell_changes mark d w i (get_or old i 0 ∷ drop (i + 1) old) z)) (from new i g)
-      (subst (λ (z : List ℕ). Leads p₀ at₀ whole p at (cell_changes mark d w i z (drop i new))) (from old i h) l)) k)
-
-  pub changes_done : (mark : List ℕ) (d w : ℕ) (old new : List ℕ) (i : ℕ) {p : List ℕ} {at : ℕ} → (length old ≤ i) ⊎ (length new ≤ i) →
-      Leads p₀ at₀ whole p at (cell_changes mark d w i (drop i old) (drop i new)) → Puts p₀ at₀ whole at p
-  unfolding cell_changes
-  changes_done mark d w old new i (inl h) l = done (rw (drop_of_length-le old h)) l
-  changes_done mark d w old new i (inr h) l =
-      done (ap (cell_changes mark d w i (drop i old)) (drop_of_length-le new h) ∙ no_change mark d w i (drop i old)) l
+  pub numbered_done : (s t u : Enumerate (Zip (Iter A) (Iter B))) (r : Option (ℕ × (Bor A × Bor B))) {b : Printer} → iter_rest (zip_first (enumerate_source s)) ≡ xs →
+      iter_rest (zip_second (enumerate_source s)) ≡ ys → Yields (enumerate_steps (zips fronts fronts)) s yielded t → r ≡ None →
+      enumerate_steps (zips fronts fronts) t r u →
+      Leads a whole b (zipped f (length yielded) (drop (length yielded) xs) (drop (length yielded) ys)) → Prints a whole b
+  numbered_done s t u r first second y is steps l =
+      let z : enumerate_steps (zips fronts fronts) t None u = subst (λ v. enumerate_steps (zips fronts fronts) t v u) is steps in
+      let q = pairs_of (zips fronts fronts) s t yielded y in
+      let n : length (map (λ v. v.1) yielded) ≡ length yielded = length-map yielded (λ v. v.1) in
+      let all = zip_end xs ys (map (λ v. v.1) yielded) (enumerate_source s) (enumerate_source t) (enumerate_source u) None first second q.0 refl z.0 in
+      done (none_left f xs ys (length yielded) (sym n ∙ all)) l

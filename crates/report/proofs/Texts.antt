@@ -7,40 +7,41 @@ use Rattle.laws.specs.Choice.{pick}
 use Rattle.words.specs.declared.Config.{Config}
 use Rattle.syntax.specs.Digits.{hex}
 use Rattle.syntax.specs.Quoted.{quoted}
-use Rattle.printing.specs.Puts.{Puts}
-use Rattle.printing.proofs.Puts.{nothing, put_as}
+use Rattle.printing.specs.declared.printer.Printer.{Printer}
+use Rattle.printing.specs.Printers.{Prints}
+use Rattle.printing.proofs.Printers.{prints_nothing, prints_as}
 use Rattle.report.specs.Fields.{change_text}
 use Rattle.report.specs.Cells.{name_text, end_text}
 use Rattle.report.specs.Report.{place_digits}
 
-pub unchanged : (p : List ℕ) (at : ℕ) (name value : List ℕ) (old new : ℕ) → old ≡ new → Puts p at (change_text name value old new) at p
+pub unchanged : (a : Printer) (name value : List ℕ) (old new : ℕ) → old ≡ new → Prints a (change_text name value old new) a
 unfolding change_text pick
-unchanged p at name value old new e = rw (eq-eqb old new e) (nothing p at)
+unchanged a name value old new e = rw (eq-eqb old new e) (prints_nothing a)
 
-pub changed : {p q : List ℕ} {at r : ℕ} (name value : List ℕ) (old new : ℕ) → (old ≡ new → ⊥) →
-    Puts p at (quoted " " ++ (name ++ (quoted "=" ++ value))) r q → Puts p at (change_text name value old new) r q
+pub changed : {a b : Printer} (name value : List ℕ) (old new : ℕ) → (old ≡ new → ⊥) → Prints a (quoted " " ++ (name ++ (quoted "=" ++ value))) b →
+    Prints a (change_text name value old new) b
 unfolding change_text pick
 changed name value old new n h = rw (ne_eqb old new n) h
 
 -- the name of a cell in two parts
-pub changed_cell : {p q : List ℕ} {at r : ℕ} (mark place value : List ℕ) (old new : ℕ) → (old ≡ new → ⊥) →
-    Puts p at (quoted " " ++ (mark ++ (place ++ (quoted "=" ++ value)))) r q → Puts p at (change_text (mark ++ place) value old new) r q
+pub changed_cell : {a b : Printer} (mark place value : List ℕ) (old new : ℕ) → (old ≡ new → ⊥) →
+    Prints a (quoted " " ++ (mark ++ (place ++ (quoted "=" ++ value)))) b → Prints a (change_text (mark ++ place) value old new) b
 unfolding change_text pick
-changed_cell mark place value old new n h = rw (ne_eqb old new n) (put_as (simp append_assoc) h)
+changed_cell mark place value old new n h = rw (ne_eqb old new n) (prints_as (simp append_assoc) h)
 
-pub no_name : (p : List ℕ) (at d i : ℕ) → (i % 8 ≡ 0 → ⊥) → Puts p at (name_text d i) at p
+pub no_name : (a : Printer) (d i : ℕ) → (i % 8 ≡ 0 → ⊥) → Prints a (name_text d i) a
 unfolding name_text pick
-no_name p at d i n = rw (ne_eqb (i % 8) 0 n) (nothing p at)
+no_name a d i n = rw (ne_eqb (i % 8) 0 n) (prints_nothing a)
 
-pub has_name : {p q : List ℕ} {at r : ℕ} (d i : ℕ) → i % 8 ≡ 0 → Puts p at (quoted "%" ++ hex d i) r q → Puts p at (name_text d i) r q
+pub has_name : {a b : Printer} (d i : ℕ) → i % 8 ≡ 0 → Prints a (quoted "%" ++ hex d i) b → Prints a (name_text d i) b
 unfolding name_text pick
 has_name d i e h = rw (eq-eqb (i % 8) 0 e) h
 
-pub no_end : (p : List ℕ) (at i : ℕ) → (i % 8 ≡ 7 → ⊥) → Puts p at (end_text i) at p
+pub no_end : (a : Printer) (i : ℕ) → (i % 8 ≡ 7 → ⊥) → Prints a (end_text i) a
 unfolding end_text pick
-no_end p at i n = rw (ne_eqb (i % 8) 7 n) (nothing p at)
+no_end a i n = rw (ne_eqb (i % 8) 7 n) (prints_nothing a)
 
-pub has_end : {p q : List ℕ} {at r : ℕ} (i : ℕ) → i % 8 ≡ 7 → Puts p at (quoted "\n") r q → Puts p at (end_text i) r q
+pub has_end : {a b : Printer} (i : ℕ) → i % 8 ≡ 7 → Prints a (quoted "\n") b → Prints a (end_text i) b
 unfolding end_text pick
 has_end i e h = rw (eq-eqb (i % 8) 7 e) h
 

@@ -1,15 +1,9 @@
 -- Cells of the memories, the return stack and the log, as report and trace print them (docs/commands.md).
-use Rattle.std.specs.Prelude.{ℕ, suc, ◌%◌, ◌≤◌, ◌⊎◌, List, [], ◌∷◌, ◌++◌, eqb}
+use Rattle.std.specs.Prelude.{ℕ, suc, ◌%◌, List, [], ◌∷◌, ◌++◌, eqb}
 use Rattle.laws.specs.Choice.{pick}
 use Rattle.syntax.specs.Digits.{hex}
 use Rattle.syntax.specs.Quoted.{quoted}
 use Rattle.report.specs.Fields.{change_text}
-
--- n is how many cells two lists of a and b cells both have
-pub record Common (a b n : ℕ) : Type 0 where
-  pub left : n ≤ a
-  pub right : n ≤ b
-  pub one : (a ≤ n) ⊎ (b ≤ n)
 
 -- each cell with w digits, and what stands before and behind it
 unfoldable pub each_cell : List ℕ → ℕ → List ℕ → List ℕ → List ℕ

@@ -1,11 +1,10 @@
 // The values of a machine's record by name: as lines, and what changed (specs/Fields.antt).
-ghost use Rattle.std.specs.Prelude.{◌/◌, ◌≡◌};
-ghost use Rattle.printing.specs.Numerals.{decimal};
-ghost use Rattle.printing.specs.Puts.{Puts};
-ghost use Rattle.syntax.specs.Digits.{hex};
+ghost use Rattle.std.specs.Prelude.{◌/◌, ◌≡◌, ◌++◌};
+ghost use Rattle.printing.specs.Printers.{Prints};
 ghost use Rattle.report.specs.Fields.{line_text, lines_of, change_text, changes_of, pointers, masks, counts, word_digits};
+ghost use Rattle.report.specs.Values.{shown_text, value_lines, value_changes, HasFields};
 
-use printing::{put_bytes, put_decimal, put_hex};
+use printing::Printer;
 use state::Core;
 use words::Config;
 
@@ -18,6 +17,21 @@ const MASK_DIGITS: usize = 1;
 
 const BITS_PER_DIGIT: u32 = 4;
 
+// How a value is shown: with so many hex digits, or in decimal.
+#[derive(Clone, Copy)]
+pub enum Shown {
+    Hex(usize),
+    Decimal,
+}
+
+// A value of the record.
+#[derive(Clone, Copy)]
+pub struct Field {
+    pub name: &'static [u8],
+    pub shown: Shown,
+    pub value: u64,
+}
+
 // Hex digits of a word.
 pub fn word_digits(c: Config) -> usize
     ensures { result ≡ word_digits c }
@@ -25,136 +39,100 @@ pub fn word_digits(c: Config) -> usize
     (c.regwidth / BITS_PER_DIGIT) as usize
 }
 
-pub fn put_hex_line(page: &mut [u8], at: usize, name: &[u8], w: usize, n: u64) -> usize
-    ensures { Puts page.old at (line_text name.now (hex w n)) result page.new }
-{
-    let i = put_bytes(page, at, name);
-    let j = put_bytes(page, i, b" ");
-    let k = put_hex(page, j, w, n);
-    put_bytes(page, k, b"\n")
-}
-
-pub fn put_decimal_line(page: &mut [u8], at: usize, name: &[u8], n: u64) -> usize
-    ensures { Puts page.old at (line_text name.now (decimal n)) result page.new }
-{
-    let i = put_bytes(page, at, name);
-    let j = put_bytes(page, i, b" ");
-    let k = put_decimal(page, j, n);
-    put_bytes(page, k, b"\n")
-}
-
-fn put_hex_change(page: &mut [u8], at: usize, name: &[u8], w: usize, old: u64, new: u64) -> usize
-    ensures { Puts page.old at (change_text name.now (hex w new) old new) result page.new }
-{
-    if old == new {
-        return at;
+impl Field {
+    fn new(name: &'static [u8], shown: Shown, value: u64) -> Field
+        ensures name { result.name.now ≡ name.now }
+        ensures shown { result.shown ≡ shown }
+        ensures value { result.value ≡ value }
+    {
+        Field { name, shown, value }
     }
-    let i = put_bytes(page, at, b" ");
-    let j = put_bytes(page, i, name);
-    let k = put_bytes(page, j, b"=");
-    put_hex(page, k, w, new)
 }
 
-fn put_decimal_change(page: &mut [u8], at: usize, name: &[u8], old: u64, new: u64) -> usize
-    ensures { Puts page.old at (change_text name.now (decimal new) old new) result page.new }
+// The record's values, in the report's order.
+fn fields(c: Config, m: Core) -> [Field; 15]
+    ensures { HasFields m result (pointers ++ (masks c ++ counts c)) }
 {
-    if old == new {
-        return at;
+    let w = word_digits(c);
+    [
+        Field::new(b"WP", Shown::Hex(BANK_DIGITS), m.wp as u64),
+        Field::new(b"RX", Shown::Hex(REGISTER_DIGITS), m.rx as u64),
+        Field::new(b"RY", Shown::Hex(REGISTER_DIGITS), m.ry as u64),
+        Field::new(b"N", Shown::Hex(MASK_DIGITS), m.n),
+        Field::new(b"Z", Shown::Hex(MASK_DIGITS), m.z),
+        Field::new(b"SPR7", Shown::Hex(w), m.spr7),
+        Field::new(b"IMask", Shown::Hex(MASK_DIGITS), m.imask),
+        Field::new(b"saved", Shown::Hex(MASK_DIGITS), m.saved),
+        Field::new(b"mode", Shown::Hex(MASK_DIGITS), m.mode),
+        Field::new(b"posted", Shown::Hex(MASK_DIGITS), m.posted as u64),
+        Field::new(b"port", Shown::Hex(w), m.port),
+        Field::new(b"loaded", Shown::Hex(MASK_DIGITS), m.loaded as u64),
+        Field::new(b"taken", Shown::Decimal, m.taken as u64),
+        Field::new(b"logged", Shown::Decimal, m.logged as u64),
+        Field::new(b"depth", Shown::Decimal, m.depth as u64),
+    ]
+}
+
+fn put_value(p: &mut Printer, shown: Shown, value: u64)
+    ensures { Prints p.old (shown_text shown value) p.new }
+{
+    match shown {
+        Shown::Hex(digits) => p.hex(digits, value),
+        Shown::Decimal => p.decimal(value),
     }
-    let i = put_bytes(page, at, b" ");
-    let j = put_bytes(page, i, name);
-    let k = put_bytes(page, j, b"=");
-    put_decimal(page, k, new)
 }
 
-pub fn put_pointers(m: Core, page: &mut [u8], at: usize) -> usize
-    ensures { Puts page.old at (lines_of pointers m) result page.new }
+// The line of a value.
+pub fn put_line(p: &mut Printer, name: &[u8], shown: Shown, value: u64)
+    ensures { Prints p.old (line_text name.now (shown_text shown value)) p.new }
 {
-    let i = put_hex_line(page, at, b"WP", BANK_DIGITS, m.wp as u64);
-    let j = put_hex_line(page, i, b"RX", REGISTER_DIGITS, m.rx as u64);
-    let k = put_hex_line(page, j, b"RY", REGISTER_DIGITS, m.ry as u64);
-    let l = put_hex_line(page, k, b"N", MASK_DIGITS, m.n);
-    put_hex_line(page, l, b"Z", MASK_DIGITS, m.z)
+    p.bytes(name);
+    p.bytes(b" ");
+    put_value(p, shown, value);
+    p.bytes(b"\n");
 }
 
-pub fn put_masks(c: Config, m: Core, page: &mut [u8], at: usize) -> usize
-    ensures { Puts page.old at (lines_of (masks c) m) result page.new }
+// A value that is another than before.
+fn put_change(p: &mut Printer, f: Field, old: u64)
+    ensures { Prints p.old (change_text f.name.now (shown_text f.shown f.value) old f.value) p.new }
 {
-    let w = word_digits(c);
-    let i = put_hex_line(page, at, b"SPR7", w, m.spr7);
-    let j = put_hex_line(page, i, b"IMask", MASK_DIGITS, m.imask);
-    let k = put_hex_line(page, j, b"saved", MASK_DIGITS, m.saved);
-    let l = put_hex_line(page, k, b"mode", MASK_DIGITS, m.mode);
-    put_hex_line(page, l, b"posted", MASK_DIGITS, m.posted as u64)
+    if old == f.value {
+        return;
+    }
+    p.bytes(b" ");
+    p.bytes(f.name);
+    p.bytes(b"=");
+    put_value(p, f.shown, f.value);
 }
 
-pub fn put_counts(c: Config, m: Core, page: &mut [u8], at: usize) -> usize
-    ensures { Puts page.old at (lines_of (counts c) m) result page.new }
+// The line of each value.
+fn put_lines(p: &mut Printer, values: &[Field])
+    ensures { Prints p.old (value_lines values.now) p.new }
 {
-    let w = word_digits(c);
-    let i = put_hex_line(page, at, b"port", w, m.port);
-    let j = put_hex_line(page, i, b"loaded", MASK_DIGITS, m.loaded as u64);
-    let k = put_decimal_line(page, j, b"taken", m.taken as u64);
-    let l = put_decimal_line(page, k, b"logged", m.logged as u64);
-    put_decimal_line(page, l, b"depth", m.depth as u64)
+    for f in values {
+        put_line(p, f.name, f.shown, f.value);
+    }
 }
 
-pub fn put_changed_pointers(old: Core, new: Core, page: &mut [u8], at: usize) -> usize
-    ensures { Puts page.old at (changes_of pointers old new) result page.new }
+// The lines of the record.
+pub fn put_fields(p: &mut Printer, c: Config, m: Core)
+    ensures { Prints p.old (lines_of (pointers ++ (masks c ++ counts c)) m) p.new }
 {
-    let i = put_hex_change(page, at, b"WP", BANK_DIGITS, old.wp as u64, new.wp as u64);
-    let j = put_hex_change(
-        page,
-        i,
-        b"RX",
-        REGISTER_DIGITS,
-        old.rx as u64,
-        new.rx as u64,
-    );
-    let k = put_hex_change(
-        page,
-        j,
-        b"RY",
-        REGISTER_DIGITS,
-        old.ry as u64,
-        new.ry as u64,
-    );
-    let l = put_hex_change(page, k, b"N", MASK_DIGITS, old.n, new.n);
-    put_hex_change(page, l, b"Z", MASK_DIGITS, old.z, new.z)
+    put_lines(p, &fields(c, m));
 }
 
-pub fn put_changed_masks(c: Config, old: Core, new: Core, page: &mut [u8], at: usize) -> usize
-    ensures { Puts page.old at (changes_of (masks c) old new) result page.new }
+// Each value that is another than before.
+fn put_value_changes(p: &mut Printer, old: &[Field], new: &[Field])
+    ensures { Prints p.old (value_changes old.now new.now) p.new }
 {
-    let w = word_digits(c);
-    let i = put_hex_change(page, at, b"SPR7", w, old.spr7, new.spr7);
-    let j = put_hex_change(page, i, b"IMask", MASK_DIGITS, old.imask, new.imask);
-    let k = put_hex_change(page, j, b"saved", MASK_DIGITS, old.saved, new.saved);
-    let l = put_hex_change(page, k, b"mode", MASK_DIGITS, old.mode, new.mode);
-    put_hex_change(
-        page,
-        l,
-        b"posted",
-        MASK_DIGITS,
-        old.posted as u64,
-        new.posted as u64,
-    )
+    for (x, y) in old.iter().zip(new) {
+        put_change(p, *y, x.value);
+    }
 }
 
-pub fn put_changed_counts(c: Config, old: Core, new: Core, page: &mut [u8], at: usize) -> usize
-    ensures { Puts page.old at (changes_of (counts c) old new) result page.new }
+// What changed in the record.
+pub fn put_changes(p: &mut Printer, c: Config, old: Core, new: Core)
+    ensures { Prints p.old (changes_of (pointers ++ (masks c ++ counts c)) old new) p.new }
 {
-    let w = word_digits(c);
-    let i = put_hex_change(page, at, b"port", w, old.port, new.port);
-    let j = put_hex_change(
-        page,
-        i,
-        b"loaded",
-        MASK_DIGITS,
-        old.loaded as u64,
-        new.loaded as u64,
-    );
-    let k = put_decimal_change(page, j, b"taken", old.taken as u64, new.taken as u64);
-    let l = put_decimal_change(page, k, b"logged", old.logged as u64, new.logged as u64);
-    put_decimal_change(page, l, b"depth", old.depth as u64, new.depth as u64)
+    put_value_changes(p, &fields(c, old), &fields(c, new));
 }

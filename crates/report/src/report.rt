@@ -1,13 +1,12 @@
 // The report of a run (specs/Report.antt).
 ghost use Rattle.std.specs.Prelude.{◌≡◌};
-ghost use Rattle.printing.specs.Puts.{Puts};
-ghost use Rattle.state.specs.State.{state};
+ghost use Rattle.printing.specs.Printers.{Prints};
 ghost use Rattle.report.specs.Report.{place_digits, outcome_text, lists_text, report_of};
 
 use crate::cells::{put_cells, put_pairs, put_registers};
-use crate::fields::{
-    put_counts, put_decimal_line, put_hex_line, put_masks, put_pointers, word_digits,
-};
+use crate::fields::{Shown, put_fields, put_line, word_digits};
+use crate::{Lists, Outcome, Snapshot};
+use printing::Printer;
 use state::Core;
 use words::Config;
 
@@ -23,80 +22,41 @@ pub fn place_digits(c: Config) -> usize
     ensures { result ≡ place_digits c }
 {
     if c.rmsize == c.regsize {
-        return SINGLE_DIGITS;
+        SINGLE_DIGITS
+    } else {
+        BANKED_DIGITS
     }
-    BANKED_DIGITS
 }
 
-fn put_outcome(number: u32, steps: u64, cycles: u64, pc: usize, page: &mut [u8], at: usize) -> usize
-    ensures { Puts page.old at (outcome_text number steps cycles pc) result page.new }
+fn put_outcome(p: &mut Printer, ended: Outcome, pc: usize)
+    ensures { Prints p.old (outcome_text ended.number ended.steps ended.cycles pc) p.new }
 {
-    let i = put_decimal_line(page, at, b"ended", number as u64);
-    let j = put_decimal_line(page, i, b"steps", steps);
-    let k = put_decimal_line(page, j, b"cycles", cycles);
-    put_hex_line(page, k, b"PC", ADDRESS_DIGITS, pc as u64)
+    put_line(p, b"ended", Shown::Decimal, ended.number as u64);
+    put_line(p, b"steps", Shown::Decimal, ended.steps);
+    put_line(p, b"cycles", Shown::Decimal, ended.cycles);
+    put_line(p, b"PC", Shown::Hex(ADDRESS_DIGITS), pc as u64);
 }
 
 // Return stack, register memory and log.
-fn put_lists(
-    c: Config,
-    m: Core,
-    stack: &[u32],
-    registers: &[u32],
-    addresses: &[u32],
-    values: &[u32],
-    page: &mut [u8],
-    at: usize,
-) -> usize
-    ensures { Puts page.old at (lists_text c m stack.now registers.now addresses.now values.now) result page.new }
+fn put_lists(p: &mut Printer, c: Config, m: Core, registers: &[u32], lists: &Lists)
+    ensures { Prints p.old (lists_text c m lists.now.stack.now registers.now lists.now.addresses.now lists.now.values.now) p.new }
 {
     let w = word_digits(c);
     let d = place_digits(c);
-    let depth = opening::count(m.depth, stack);
-    let i = put_cells(
-        &stack[..depth],
-        0,
-        b"stack ",
-        ADDRESS_DIGITS,
-        b"\n",
-        page,
-        at,
-    );
-    let j = put_registers(registers, d, w, page, i);
-    let filled = opening::count(m.logged, addresses);
-    let held = opening::count(m.logged, values);
-    put_pairs(
-        &addresses[..filled],
-        &values[..held],
-        0,
-        b"log ",
-        w,
-        b" ",
-        b"\n",
-        page,
-        j,
-    )
+    let stack = opening::first(m.depth, lists.stack);
+    put_cells(p, stack, b"stack ", ADDRESS_DIGITS, b"\n");
+    put_registers(p, registers, d, w);
+    let addresses = opening::first(m.logged, lists.addresses);
+    let values = opening::first(m.logged, lists.values);
+    put_pairs(p, addresses, values, b"log ", w, b" ", b"\n");
 }
 
-// The report of a run that ended with this number, steps and cycles.
-pub fn put_report(
-    c: Config,
-    number: u32,
-    steps: u64,
-    cycles: u64,
-    m: Core,
-    stack: &[u32],
-    registers: &[u32],
-    addresses: &[u32],
-    values: &[u32],
-    page: &mut [u8],
-    at: usize,
-) -> usize
-    ensures { Puts page.old at (report_of c number steps cycles m stack.now registers.now addresses.now values.now) result page.new }
+// The report of a run that ended so, on the machine that it left.
+pub fn put_report(p: &mut Printer, c: Config, ended: Outcome, left: &Snapshot, lists: &Lists)
+    ensures { Prints p.old (report_of c ended.number ended.steps ended.cycles left.now.core lists.now.stack.now left.now.registers.now lists.now.addresses.now lists.now.values.now) p.new }
 {
-    let i = put_outcome(number, steps, cycles, m.pc, page, at);
-    let j = put_pointers(m, page, i);
-    let k = put_masks(c, m, page, j);
-    let l = put_counts(c, m, page, k);
-    put_lists(c, m, stack, registers, addresses, values, page, l)
+    let m = left.core;
+    put_outcome(p, ended, m.pc);
+    put_fields(p, c, m);
+    put_lists(p, c, m, left.registers, lists);
 }

@@ -1,17 +1,15 @@
 -- `parsing::naming::place_of` meets its contract. Assumes nothing.
-use native.Mathlib.Omega.{arith}
-use native.Mathlib.Nat.{zero-add}
-use Rattle.parsing.proofs.naming.Laws.{place_found, place_next, place_none}
+use Rattle.std.proofs.Common.{rules, ap, refl}
+use borrow.Author.Tests.{tests}
+use Rattle.std.proofs.lemmas.Iterator.{YieldsList-from_slice}
+use Rattle.std.proofs.lemmas.Iterator.Search.{position_from_yields_List}
+use Rattle.parsing.specs.Generics.{names, generics}
+use Rattle.parsing.proofs.naming.Laws.{named, texts, found}
 use Rattle.parsing.proofs.naming.place_of.Goals as goal
 
-pub loop-k-init : goal.loop-k-init
-loop-k-init c = (omega arith, zero-add _)
-
-pub returns-then-is_name : goal.returns-then-is_name
-returns-then-is_name c = place_found _ _ c.loop-k.invariant.1 _ c.loop-k-test.true c.is_name.ensures c.if-is_name.true
-
-pub loop-k-preserved : goal.loop-k-preserved
-loop-k-preserved c = (omega arith, place_next _ _ c.loop-k.invariant.1 _ c.loop-k-test.true c.is_name.ensures c.if-is_name.false)
-
 pub returns : goal.returns
-returns c = place_none _ _ c.loop-k.invariant.1 c.loop-k-test.false
+unfolding names generics
+returns c =
+    found c.args.name.now c.iter.result.rest.now (ap texts c.iter.ensures.rest) _
+    (position_from_yields_List (named c.args.name.now) _ _ c.position.result c.position.ensures.ran (YieldsList-from_slice c.iter.result.rest.now refl)
+    (λ x b q k. search (rules, tests)))

@@ -3,7 +3,7 @@ use Rattle.report.proofs.Texts.{no_end, has_end}
 use Rattle.report.proofs.cells.put_line_end.Goals as goal
 
 pub returns-then-i : goal.returns-then-i
-returns-then-i c = no_end _ _ c.args.i c.if-i.true
+returns-then-i c = has_end c.args.i c.if-i.true c.bytes.ensures
 
-pub returns : goal.returns
-returns c = has_end c.args.i c.if-i.false c.put_bytes.ensures
+pub returns-else-i : goal.returns-else-i
+returns-else-i c = no_end _ c.args.i c.if-i.false

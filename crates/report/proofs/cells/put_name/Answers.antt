@@ -1,10 +1,10 @@
 -- `report::cells::put_name` meets its contract. Assumes nothing.
-use Rattle.printing.proofs.Puts.{puts_then}
+use Rattle.printing.proofs.Printers.{prints_then}
 use Rattle.report.proofs.Texts.{no_name, has_name}
 use Rattle.report.proofs.cells.put_name.Goals as goal
 
-pub returns-then-i-ne0 : goal.returns-then-i-ne0
-returns-then-i-ne0 c = no_name _ _ c.args.d c.args.i c.if-i-ne0.true
+pub returns-then-i-eq0 : goal.returns-then-i-eq0
+returns-then-i-eq0 c = has_name c.args.d c.args.i c.if-i-eq0.true (prints_then c.bytes.ensures c.hex.ensures)
 
-pub returns : goal.returns
-returns c = has_name c.args.d c.args.i c.if-i-ne0.false (puts_then c.put_bytes-j.ensures c.put_hex.ensures)
+pub returns-else-i-eq0 : goal.returns-else-i-eq0
+returns-else-i-eq0 c = no_name _ c.args.d c.args.i c.if-i-eq0.false

@@ -1,6 +1,6 @@
 -- `report::cells::put_pair` meets its contract. Assumes nothing.
-use Rattle.printing.proofs.Puts.{puts_then}
+use Rattle.printing.proofs.Printers.{prints_then}
 use Rattle.report.proofs.cells.put_pair.Goals as goal
 
 pub returns : goal.returns
-returns c = puts_then c.put_bytes-i.ensures (puts_then c.put_hex-j.ensures (puts_then c.put_bytes-k.ensures (puts_then c.put_hex-l.ensures c.put_bytes.ensures)))
+returns c = prints_then c.bytes.ensures (prints_then c.hex.ensures (prints_then c.bytes-2.ensures (prints_then c.hex-2.ensures c.bytes-3.ensures)))

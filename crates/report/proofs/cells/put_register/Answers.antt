@@ -1,8 +1,8 @@
 -- `report::cells::put_register` meets its contract. Assumes nothing.
-use Rattle.printing.proofs.Puts.{puts_then}
+use Rattle.printing.proofs.Printers.{prints_then}
 use Rattle.report.specs.Cells.{register_text}
 use Rattle.report.proofs.cells.put_register.Goals as goal
 
 pub returns : goal.returns
 unfolding register_text
-returns c = puts_then c.put_name-j.ensures (puts_then c.put_bytes-k.ensures (puts_then c.put_hex-l.ensures c.put_line_end.ensures))
+returns c = prints_then c.put_name.ensures (prints_then c.bytes.ensures (prints_then c.hex.ensures c.put_line_end.ensures))

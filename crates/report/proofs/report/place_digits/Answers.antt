@@ -5,5 +5,5 @@ use Rattle.report.proofs.report.place_digits.Goals as goal
 pub returns-then-c : goal.returns-then-c
 returns-then-c c = single c.args.c c.if-c.true
 
-pub returns : goal.returns
-returns c = banked c.args.c c.if-c.false
+pub returns-else-c : goal.returns-else-c
+returns-else-c c = banked c.args.c c.if-c.false

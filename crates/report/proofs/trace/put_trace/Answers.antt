@@ -1,11 +1,10 @@
 -- `report::trace::put_trace` meets its contract. Assumes nothing.
-use Rattle.printing.proofs.Puts.{puts_then}
+use Rattle.printing.proofs.Printers.{prints_then, prints_as}
+use Rattle.report.specs.Fields.{pointers, masks, counts}
 use Rattle.report.specs.Trace.{trace_line}
+use Rattle.report.proofs.Tables.{changes_of_three}
 use Rattle.report.proofs.trace.put_trace.Goals as goal
-
-pub shape_of-page : goal.shape_of-page
-shape_of-page c = (puts_then c.put_step-i.ensures (puts_then c.put_changed_pointers-j.ensures (puts_then c.put_changed_masks-k.ensures (puts_then c.put_changed_counts-l.ensures (puts_then c.put_changed_cells-m.ensures (puts_then c.put_changed_log-n.ensures c.put_bytes.ensures)))))).kept
 
 pub returns : goal.returns
 unfolding trace_line
-returns c = puts_then c.put_step-i.ensures (puts_then c.put_changed_pointers-j.ensures (puts_then c.put_changed_masks-k.ensures (puts_then c.put_changed_counts-l.ensures (puts_then c.put_changed_cells-m.ensures (puts_then c.put_changed_log-n.ensures c.put_bytes.ensures)))))
+returns c = prints_then c.put_step.ensures (prints_as (changes_of_three pointers (masks c.args.c) (counts c.args.c) c.args.old.now.core c.args.new.now.core _) (prints_then c.put_changes.ensures (prints_then c.put_changed_cells.ensures (prints_then c.put_changed_log.ensures c.bytes.ensures))))
