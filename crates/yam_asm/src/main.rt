@@ -4,150 +4,178 @@
 // 1,048,576 bytes. What cannot be opened, read or written is said on standard error.
 #![tactic(auto)]
 
-ghost use Rattle.std.specs.Prelude.{◌≡◌, ◌≤◌};
-ghost use Rattle.files.specs.Counts.{IsPrefixLen};
-ghost use Rattle.yam_asm.specs.Making.{made, made_of};
+ghost use Rattle.std.specs.Prelude.{◌≡◌};
+ghost use Rattle.yam_asm.specs.Making.{made_by, made_of, refused_line, refused_number};
+ghost use Rattle.yam_asm.specs.declared.Refused.TheVariants.{Open, Assemble, Store};
 
-use assembler::Assembled;
-use files::{NAME_BYTES, argument, argument_count, read_all, read_file};
-use std::io::{Error, Read};
-use std::rt::Files;
+use assembler::AssembleError;
+use files::{Failure, NAME_BYTES, argument, argument_count, read_all, read_file};
+use opening::{FILE_BYTES, WORDS};
+use std::fmt;
+use std::io::Read;
+use std::rt::{Env, Files};
 use words::Config;
-
-const WORDS: usize = 8192;
-
-const FILE_BYTES: usize = 34304;
 
 const SOURCE_BYTES: usize = 1048576;
 
-fn unwritten(rt: &impl Eprint, why: Error) {
-    files::fail(rt, "standard output", why);
+// Why there is no image.
+#[derive(Clone, Copy)]
+enum Refused {
+    // The source is past 1,048,576 bytes.
+    TooLong,
+    Open(opening::Refusal),
+    Assemble(AssembleError),
+    Store(image::Refusal),
 }
 
-// The line of a refusal; line 0 is none.
-fn refused(rt: &(impl Print + Eprint), number: u32, line: usize) {
-    let written = if line != 0 {
-        println!(rt; "refused {number} line {line}")
-    } else {
-        println!(rt; "refused {number}")
-    };
-    if let Err(why) = written {
-        unwritten(rt, why);
+impl Refused {
+    // The documents' number.
+    fn number(self) -> u32
+        ensures { result ≡ refused_number self }
+    {
+        match self {
+            Refused::TooLong => 2,
+            Refused::Open(why) => why.number(),
+            Refused::Assemble(why) => why.number(),
+            Refused::Store(why) => why.number(),
+        }
+    }
+
+    // The source's line, where it is one of a line.
+    fn line(self) -> Option<usize>
+        ensures { result ≡ refused_line self }
+    {
+        match self {
+            Refused::Assemble(why) => why.line(),
+            _ => None,
+        }
     }
 }
 
-// n, or `most` where n is above it.
-fn within(n: usize, most: usize) -> usize
-    ensures { result ≤ most }
-{
-    if n < most { n } else { most }
+impl fmt::Display for Refused {
+    fn fmt<W: fmt::Write>(&self, f: &mut fmt::Formatter<W>) -> fmt::Result {
+        let number = self.number();
+        match self.line() {
+            Some(line) => write!(f, "refused {number} line {line}"),
+            None => write!(f, "refused {number}"),
+        }
+    }
 }
 
-// IM_SIZE, or how many words there are where that is above it.
-fn size_of(c: Config, words: &[u32]) -> usize
-    ensures { IsPrefixLen result words.now }
-{
-    within(c.imsize as usize, words.len())
+impl From<opening::Refusal> for Refused {
+    ghost from_gives = { λ why e. e ≡ Open why };
+
+    fn from(why: opening::Refusal) -> Refused {
+        Refused::Open(why)
+    }
+}
+
+impl From<AssembleError> for Refused {
+    ghost from_gives = { λ why e. e ≡ Assemble why };
+
+    fn from(why: AssembleError) -> Refused {
+        Refused::Assemble(why)
+    }
+}
+
+impl From<image::Refusal> for Refused {
+    ghost from_gives = { λ why e. e ≡ Store why };
+
+    fn from(why: image::Refusal) -> Refused {
+        Refused::Store(why)
+    }
+}
+
+// Why the program ends without an image: what is said on standard error, or the line that it prints.
+#[derive(Drop)]
+enum Stop<'a> {
+    Failure(Failure<'a>),
+    Refused(Refused),
+}
+
+impl<'a> From<Failure<'a>> for Stop<'a> {
+    fn from(failure: Failure<'a>) -> Stop<'a> {
+        Stop::Failure(failure)
+    }
+}
+
+impl<'a> From<Refused> for Stop<'a> {
+    fn from(refused: Refused) -> Stop<'a> {
+        Stop::Refused(refused)
+    }
+}
+
+impl<'a> From<opening::Refusal> for Stop<'a> {
+    fn from(refusal: opening::Refusal) -> Stop<'a> {
+        Stop::Refused(Refused::from(refusal))
+    }
 }
 
 // Assembles the source into the image and writes the image's file. Where the image was IM_SIZE zeros and the file is as long as one of the
 // configuration, no number is answered but those of `assembler::assemble`.
-fn assemble_image(c: Config, source: &[u8], image: &mut [u32], file: &mut [u8]) -> Assembled
-    ensures { made result.number result.line file.new ≡ made_of c source.now image.old file.old }
+fn assemble_image(
+    c: Config,
+    source: &[u8],
+    image: &mut [u32],
+    file: &mut [u8],
+) -> Result<(), Refused>
+    ensures { made_by result file.new ≡ made_of c source.now image.old file.old }
 {
-    let r = assembler::assemble(c, source, image);
-    if r.number != 0 {
-        return r;
-    }
-    let number = image::store(c, image, file);
-    Assembled {
-        number: number,
-        line: 0,
-        count: r.count,
-    }
+    assembler::assemble(c, source, image)?;
+    image::store(c, image, file)?;
+    Ok(())
 }
 
-// Reads the source and assembles it; writes the image file, or the line of the refusal.
-fn assemble_source(
-    rt: &(impl Print + Eprint),
+// Reads the source and assembles it; writes the image file, which is as long as the configuration's.
+fn assemble_source<'a>(
+    rt: &impl Print,
     from: &mut impl Read,
     c: Config,
     source: &mut [u8],
     image: &mut [u32],
     file: &mut [u8],
-) {
-    let input = read_all(rt, "standard input", from, source);
-    if input.failed {
-        return;
-    }
-    let bytes = input.bytes;
+) -> Result<(), Stop<'a>> {
+    let bytes = read_all("standard input", from, source)?;
     if SOURCE_BYTES < bytes {
-        refused(rt, 2, 0);
-        return;
+        return Err(Stop::from(Refused::TooLong));
     }
-    let size = size_of(c, image);
-    let r = assemble_image(c, &source[..bytes], &mut image[..size], file);
-    if r.number != 0 {
-        refused(rt, r.number, r.line);
-        return;
-    }
-    if let Err(why) = rt.write_all(file) {
-        unwritten(rt, why);
-    }
+    let size = opening::count(c.imsize as usize, image);
+    assemble_image(c, &source[..bytes], &mut image[..size], file)?;
+    files::print(rt, file, file.len())?;
+    Ok(())
 }
 
-// Takes the configuration from the named file. `loaded` takes the words of that file, which are not used.
-fn assemble(
-    rt: &(impl Files + Print + Eprint),
+// Takes the configuration from the named file, and assembles. `name` takes the file's name, `source` the source.
+fn assemble<'a>(
+    rt: &(impl Env + Files + Print),
     from: &mut impl Read,
-    path: &[u8],
-    file: &mut [u8],
-    loaded: &mut [u32],
+    name: &'a mut [u8],
     source: &mut [u8; SOURCE_BYTES + 1],
-    image: &mut [u32],
-) {
-    let input = read_file(rt, path, file);
-    if input.failed {
-        return;
+) -> Result<(), Stop<'a>> {
+    if argument_count(rt) != 2 {
+        return Err(Stop::from(Failure::Usage("usage: yam_asm CONFIG.img <SOURCE >OUT.img")));
     }
-    let bytes = input.bytes;
-    if FILE_BYTES < bytes {
-        refused(rt, 2, 0);
-        return;
-    }
-    let l = image::load(&file[..bytes], loaded);
-    let number = l.number;
-    if number != 0 {
-        refused(rt, number, 0);
-        return;
-    }
-    let c = l.config;
-    assemble_source(rt, from, c, source, image, &mut file[..bytes]);
+    let Ok(length) = argument(rt, 1, name) else {
+        return Err(Stop::from(Failure::Usage("yam_asm: the argument is too long")));
+    };
+    let mut file = [0u8; FILE_BYTES + 1];
+    let bytes = read_file(rt, &name[..length], &mut file)?;
+    let mut loaded = [0u32; WORDS];
+    let c = opening::open(&file[..bytes], &mut loaded)?;
+    let mut image = [0u32; WORDS];
+    assemble_source(rt, from, c, source, &mut image, &mut file[..bytes])
 }
 
 fn main(rt: HostRuntime) {
-    if argument_count(&rt) != 2 {
-        let _ = eprintln!(rt; "usage: yam_asm CONFIG.img <SOURCE >OUT.img");
-        return;
-    }
-    let mut path = [0u8; NAME_BYTES];
-    let name = argument(&rt, 1, &mut path);
-    if name.failed {
-        let _ = eprintln!(rt; "yam_asm: the argument is too long");
-        return;
-    }
-    let length = name.bytes;
-    let mut file = [0u8; FILE_BYTES + 1];
-    let mut loaded = [0u32; WORDS];
+    let mut name = [0u8; NAME_BYTES];
     let mut source = [0u8; SOURCE_BYTES + 1];
-    let mut image = [0u32; WORDS];
-    assemble(
-        &rt,
-        &mut rt.stdin(),
-        &path[..length],
-        &mut file,
-        &mut loaded,
-        &mut source,
-        &mut image,
-    );
+    let why = match assemble(&rt, &mut rt.stdin(), &mut name, &mut source) {
+        Ok(()) => return,
+        Err(Stop::Failure(why)) => why,
+        Err(Stop::Refused(refused)) => match println!(rt; "{refused}") {
+            Ok(()) => return,
+            Err(why) => Failure::Io("standard output", why),
+        },
+    };
+    let _ = eprintln!(rt; "{why}");
 }

@@ -2,43 +2,47 @@
 use Prim.Native.Nat.{ℕ}
 use mathlib.Core.Path.{◌≡◌}
 use mathlib.Core.List.{List}
-use borrow.Author.Tests.{eq-eqb, ne_eqb}
+use borrow.Author.Tests.{ne_eqb}
 use lib.ListN.{take}
+use Rattle.std.proofs.Common.{Result, Ok, Err}
 use Rattle.laws.specs.Choice.{pick}
 use Rattle.words.specs.declared.Config.{Config}
-use Rattle.image.specs.Loading.{Load}
-use Rattle.certificate.specs.declared.Checked.{Checked}
-use Rattle.certificate.specs.declared.Checked.TheVariants as checked
-use Rattle.certificate.specs.Answers.{answer_of}
+use Rattle.certificate.specs.declared.Rule.{Rule}
+use Rattle.certificate.specs.declared.Fault.{Fault}
+use Rattle.certificate.specs.declared.Fault.TheVariants as fault
+use Rattle.certificate.specs.Answers.{answer_of, rule_number}
 use Rattle.rules.specs.Check.{Answer, check_of}
 use Rattle.printing.specs.Numerals.{refusal_line}
-use Rattle.printing.specs.Puts.{Puts}
-use Rattle.opening.specs.Opening.{open_of, Counted}
+use Rattle.printing.specs.declared.printer.Printer.{Printer}
+use Rattle.printing.specs.Printers.{Prints}
+use Rattle.opening.specs.declared.Refusal.{Refusal}
+use Rattle.opening.specs.Opening.{open_of, refusal_number, Answers}
 use Rattle.yam_check.specs.Verdict.{passes_line, broken_lines, verdict_text, verdict_of}
 
-module _ {p q : List ℕ} {r : ℕ} (c : Config) (image : List ℕ) (x : Checked) where
-  pub passed_put : (l : ℕ) → x ≡ checked.Passed l → Puts p 0 (passes_line l) r q → Puts p 0 (verdict_text c image (answer_of x)) r q
+module _ {p q : Printer} (c : Config) (image : List ℕ) where
+  pub passed_put : (x : Result ℕ Fault) (l : ℕ) → x ≡ Ok l → Prints p (passes_line l) q → Prints p (verdict_text c image (answer_of x)) q
   unfolding verdict_text answer_of pick
-  passed_put l e h = rw e h
+  passed_put x l e h = rw e h
 
-  pub unlawful_put : x ≡ checked.Unlawful → Puts p 0 (refusal_line 1) r q → Puts p 0 (verdict_text c image (answer_of x)) r q
+  pub unlawful_put : (x : Fault) → x ≡ fault.Unlawful → Prints p (refusal_line 1) q → Prints p (verdict_text c image (answer_of (Err x))) q
   unfolding verdict_text answer_of pick
-  unlawful_put e h = rw e h
+  unlawful_put x e h = rw e h
 
-  pub misfit_put : x ≡ checked.WrongLength → Puts p 0 (refusal_line 2) r q → Puts p 0 (verdict_text c image (answer_of x)) r q
+  pub misfit_put : (x : Fault) → x ≡ fault.WrongLength → Prints p (refusal_line 2) q → Prints p (verdict_text c image (answer_of (Err x))) q
   unfolding verdict_text answer_of pick
-  misfit_put e h = rw e h
+  misfit_put x e h = rw e h
 
-  pub broken_put : (a k : ℕ) → x ≡ checked.Broken a k → Puts p 0 (broken_lines c image a k) r q → Puts p 0 (verdict_text c image (answer_of x)) r q
+  pub broken_put : (x : Fault) (a n : ℕ) (k : Rule) → x ≡ fault.Broken a k → n ≡ rule_number k → Prints p (broken_lines c image a n) q →
+      Prints p (verdict_text c image (answer_of (Err x))) q
   unfolding verdict_text answer_of pick
-  broken_put a k e h = rw e h
+  broken_put x a n k e d h = rw (e, ← d) h
 
-module _ {p q : List ℕ} {r : ℕ} (f certificate image : List ℕ) (l : Load) (e : l ≡ open_of f image) where
-  pub refused_put : (l.number ≡ 0 → ⊥) → Puts p 0 (refusal_line l.number) r q → Puts p 0 (verdict_of f certificate image) r q
+module _ {p q : Printer} (f certificate image after : List ℕ) where
+  pub refused_put : (e : Refusal) → Answers (open_of f image) (Err e) after → Prints p (refusal_line (refusal_number e)) q → Prints p (verdict_of f certificate image) q
   unfolding verdict_of pick
-  refused_put n h = rw (← e, ne_eqb l.number 0 n) h
+  refused_put e a h = rw (← a.number, ne_eqb (refusal_number e) 0 a.refused) h
 
-  pub checked_put : l.number ≡ 0 → (n : ℕ) → Counted l.config.imsize l.image n → (x : Answer) → x ≡ check_of l.config (take n l.image) certificate →
-      Puts p 0 (verdict_text l.config (take n l.image) x) r q → Puts p 0 (verdict_of f certificate image) r q
+  pub checked_put : (c : Config) → Answers (open_of f image) (Ok c) after → (words : List ℕ) → words ≡ take c.imsize after → (x : Answer) →
+      x ≡ check_of c words certificate → Prints p (verdict_text c words x) q → Prints p (verdict_of f certificate image) q
   unfolding verdict_of pick
-  checked_put z n k x a h = rw (← e, eq-eqb l.number 0 z, ← k.same, ← a) h
+  checked_put c a words s x e h = rw (← a.number, ← a.config, ← a.image, ← s, ← e) h

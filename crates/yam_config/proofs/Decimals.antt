@@ -12,7 +12,8 @@ use Rattle.laws.specs.Choice.{pick, is_true}
 use Rattle.laws.specs.Lists.{all}
 use Rattle.laws.specs.Table.{every, at_every}
 use Rattle.printing.specs.Digits.{hex_digit_ascii, last_digits}
-use Rattle.parsing.specs.Decimals.{is_digit, number, decimal_from, decimal_of, most_digits, most_value, at_most, value_of}
+use Rattle.parsing.specs.Decimals.{is_digit, decimal_from, decimal_of, most_digits, most_value, at_most, value_of}
+use Rattle.std.specs.Prelude.{Some}
 use Rattle.parsing.proofs.Printed.{filled}
 use Rattle.printing.specs.Numerals.{places_from, decimal}
 
@@ -145,17 +146,17 @@ module _ (n : ℕ) (h : n < 2 ^ 32) where
       let b = places_few 19 n 9 (omega arith) in
       (omega arith, omega arith)
 
-  decimal_back : decimal_of (decimal n) ≡ number n
+  decimal_back : decimal_of (decimal n) ≡ Some n
   unfolding decimal_of decimal decimal_from pick
   decimal_back =
       let k = places_from 19 n in
       let l = length_digits k n in
       let a = one_or_more 19 n in
-      let z : decimal_from 0 (last_digits 10 k n) ≡ number n =
+      let z : decimal_from 0 (last_digits 10 k n) ≡ Some n =
       ap (decimal_from 0) (sym (append-nil (last_digits 10 k n))) ∙ reads_digits k n [] (places_hold 19 n (omega arith)) in
       rw (ne_eqb (length (last_digits 10 k n)) 0 (λ e. absurd (omega arith))) z
 
-  pub value_back : value_of (decimal n) ≡ number n
+  pub value_back : value_of (decimal n) ≡ Some n
   unfolding value_of at_most pick
   value_back = rw (le-leb (length (decimal n)) most_digits decimal_length.1, decimal_back, le-leb n most_value (omega arith))
 

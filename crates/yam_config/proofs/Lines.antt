@@ -2,24 +2,28 @@
 use Prim.Native.Nat.{ℕ, zero, suc, ◌+◌, ◌<◌, ◌≤◌}
 use mathlib.Core.Path.{◌≡◌, refl, sym, ap, ◌∙◌}
 use mathlib.Core.Bool.{Bool, true, false}
-use mathlib.Core.List.{List, [], ◌∷◌, ◌++◌, append_assoc}
+use mathlib.Core.List.{List, [], ◌∷◌, ◌++◌, append_assoc, append-nil}
 use native.Mathlib.Nat.{add-zero, zero-add, suc-add}
 use native.Mathlib.Numerals.{add-one}
 use native.Mathlib.Omega.{arith}
-use borrow.Author.Tests.{eq-eqb, ne_eqb}
+use borrow.Author.Tests.{ne_eqb}
 use lib.ListN.{length, get_or, take}
 use lib.Seq.{take-suc, take_all}
+use denote.Ref.{Bor}
+use Rattle.std.proofs.Common.{Ok, Err}
 use Rattle.laws.specs.Choice.{pick}
+use Rattle.laws.specs.Lists.{column, column_at}
 use Rattle.words.specs.declared.Config.{Config}
-use Rattle.image.specs.Loading.{Load}
 use Rattle.syntax.specs.Digits.{hex}
 use Rattle.syntax.specs.Lines.{newline}
-use Rattle.parsing.specs.Generics.{names}
+use Rattle.parsing.specs.Generics.{generic_count, generics, names}
 use Rattle.parsing.specs.Words.{printed}
 use Rattle.printing.specs.Numerals.{refusal_line}
-use Rattle.printing.specs.Puts.{Puts}
-use Rattle.printing.proofs.Puts.{nothing, puts_then, put_as}
-use Rattle.opening.specs.Opening.{open_of, Counted}
+use Rattle.printing.specs.declared.printer.Printer.{Printer}
+use Rattle.printing.specs.Printers.{Prints}
+use Rattle.printing.proofs.Printers.{prints_nothing, prints_then, prints_as}
+use Rattle.opening.specs.declared.Refusal.{Refusal}
+use Rattle.opening.specs.Opening.{open_of, refusal_number, Answers}
 use Rattle.yam_config.specs.Generics.{values_of, generic_line, lines_from, generics_text, printed_of}
 
 -- Generics
@@ -32,13 +36,45 @@ split c k (suc m) n =
     let e : suc k + m ≡ k + suc m = omega arith in
     rw (suc-add m n) (ap (λ (l : List ℕ). first ++ l) (split c (suc k) m n) ∙ rw e (sym (append_assoc first (lines_from c (suc k) m) (lines_from c (k + suc m) n))))
 
-three_parts : (c : Config) → lines_from c 0 7 ++ (lines_from c 7 5 ++ lines_from c 12 7) ≡ generics_text c
-unfolding generics_text
-three_parts c = sym (split c 0 7 12 ∙ ap (λ (l : List ℕ). lines_from c 0 7 ++ l) (split c 7 5 7))
+one_line : (c : Config) (k : ℕ) → lines_from c k 1 ≡ generic_line (get_or names k []) (get_or (values_of c) k 0)
+unfolding lines_from
+one_line c k = append-nil (generic_line (get_or names k []) (get_or (values_of c) k 0))
 
-pub generics_put : {p q u v : List ℕ} {i j r : ℕ} (c : Config) → Puts p 0 (lines_from c 0 7) i q → Puts q i (lines_from c 7 5) j u → Puts u j (lines_from c 12 7) r v →
-    Puts p 0 (generics_text c) r v
-generics_put c x y z = put_as (three_parts c) (puts_then x (puts_then y z))
+pub generics_none : (c : Config) (a : Printer) → Prints a (lines_from c 0 0) a
+unfolding lines_from
+generics_none c a = prints_nothing a
+
+-- the names and values that stand in a table
+pub record Table (c : Config) (table : List (Bor (List ℕ) × ℕ)) : Type 0 where
+  pub names_are : column (λ g. g.0.now) table ≡ names
+  pub values_are : column (λ g. g.1) table ≡ values_of c
+
+-- what is read past a table's end
+abbrev pub past : Bor (List ℕ) × ℕ
+past = (record { ref_ptr = (0, 0); now = [] }, 0)
+
+name_count : length names ≡ generic_count
+unfolding names generics
+name_count = refl
+
+module _ (c : Config) (table : List (Bor (List ℕ) × ℕ)) (t : Table c table) (k : ℕ) (h : k < generic_count) where
+  name_at : (get_or table k past).0.now ≡ get_or names k []
+  name_at =
+      sym (column_at (λ g. g.0.now) table k past) ∙ ap (λ (l : List (List ℕ)). get_or l k []) t.names_are
+
+  value_at : (get_or table k past).1 ≡ get_or (values_of c) k 0
+  value_at = sym (column_at (λ g. g.1) table k past) ∙ ap (λ (l : List ℕ). get_or l k 0) t.values_are
+
+  pub generics_more : {a b e : Printer} → Prints a (lines_from c 0 k) b → Prints b (generic_line (get_or table k past).0.now (get_or table k past).1) e →
+      Prints a (lines_from c 0 (k + 1)) e
+  generics_more x y =
+      let q : lines_from c 0 k ++ generic_line (get_or table k past).0.now (get_or table k past).1 ≡ lines_from c 0 (k + 1) =
+      sym (split c 0 k 1 ∙ rw (zero-add, name_at, value_at) (ap (λ (l : List ℕ). lines_from c 0 k ++ l) (one_line c k))) in
+      prints_as q (prints_then x y)
+
+pub generics_all : {a b : Printer} (c : Config) (k : ℕ) → generic_count ≤ k → k ≤ generic_count → Prints a (lines_from c 0 k) b → Prints a (generics_text c) b
+unfolding generics_text
+generics_all c k h l x = let e : k ≡ generic_count = omega arith in rw e at x
 
 -- Words
 
@@ -51,34 +87,34 @@ printed_one : (w : ℕ) → printed (w ∷ []) ≡ hex 8 w ++ (newline ∷ [])
 unfolding printed
 printed_one w = refl
 
-module _ {p : List ℕ} (ws : List ℕ) where
-  pub words_none : Puts p 0 (printed (take 0 ws)) 0 p
+module _ (ws : List ℕ) where
+  pub words_none : (a : Printer) → Prints a (printed (take 0 ws)) a
   unfolding printed
-  words_none = nothing p 0
+  words_none a = prints_nothing a
 
-  pub words_more : {q u v : List ℕ} {at j r : ℕ} (i : ℕ) → i < length ws → Puts p 0 (printed (take i ws)) at q → Puts q at (hex 8 (get_or ws i 0)) j u →
-      Puts u j (newline ∷ []) r v → Puts p 0 (printed (take (i + 1) ws)) r v
+  pub words_more : {a b d e : Printer} (i : ℕ) → i < length ws → Prints a (printed (take i ws)) b → Prints b (hex 8 (get_or ws i 0)) d →
+      Prints d (newline ∷ []) e → Prints a (printed (take (i + 1) ws)) e
   words_more i h x y z =
       let e : printed (take i ws) ++ (hex 8 (get_or ws i 0) ++ (newline ∷ [])) ≡ printed (take (i + 1) ws) =
       sym (ap (λ (n : ℕ). printed (take n ws)) (add-one i) ∙ ap printed (take-suc ws i 0 h) ∙ printed_append (take i ws) (get_or ws i 0 ∷ []) ∙
       ap (λ (l : List ℕ). printed (take i ws) ++ l) (printed_one (get_or ws i 0))) in
-      put_as e (puts_then x (puts_then y z))
+      prints_as e (prints_then x (prints_then y z))
 
-  pub words_all : {q : List ℕ} {r : ℕ} (i : ℕ) → length ws ≤ i → Puts p 0 (printed (take i ws)) r q → Puts p 0 (printed ws) r q
-  words_all i h x = put_as (ap printed (take_all i ws h)) x
+  pub words_all : {a b : Printer} (i : ℕ) → length ws ≤ i → Prints a (printed (take i ws)) b → Prints a (printed ws) b
+  words_all i h x = prints_as (ap printed (take_all i ws h)) x
 
 -- The file
 
-module _ {p q : List ℕ} {r : ℕ} (asked : Bool) (f image : List ℕ) (l : Load) (e : l ≡ open_of f image) where
-  pub refused_put : (l.number ≡ 0 → ⊥) → Puts p 0 (refusal_line l.number) r q → Puts p 0 (printed_of asked f image) r q
+module _ {p q : Printer} (asked : Bool) (f image after : List ℕ) where
+  pub refused_put : (e : Refusal) → Answers (open_of f image) (Err e) after → Prints p (refusal_line (refusal_number e)) q → Prints p (printed_of asked f image) q
   unfolding printed_of pick
-  refused_put n h = rw (← e, ne_eqb l.number 0 n) h
+  refused_put e a h = rw (← a.number, ne_eqb (refusal_number e) 0 a.refused) h
 
-  pub config_put : l.number ≡ 0 → asked ≡ false → Puts p 0 (generics_text l.config) r q → Puts p 0 (printed_of asked f image) r q
-  unfolding printed_of pick
-  config_put z a h = rw (← e, eq-eqb l.number 0 z, a) h
+  module _ (c : Config) (a : Answers (open_of f image) (Ok c) after) where
+    pub config_put : asked ≡ false → Prints p (generics_text c) q → Prints p (printed_of asked f image) q
+    unfolding printed_of pick
+    config_put n h = rw (← a.number, n, ← a.config) h
 
-  pub words_put : l.number ≡ 0 → asked ≡ true → (n : ℕ) → Counted l.config.imsize l.image n → Puts p 0 (printed (take n l.image)) r q →
-      Puts p 0 (printed_of asked f image) r q
-  unfolding printed_of pick
-  words_put z a n k h = rw (← e, eq-eqb l.number 0 z, a, ← k.same) h
+    pub words_put : asked ≡ true → (words : List ℕ) → words ≡ take c.imsize after → Prints p (printed words) q → Prints p (printed_of asked f image) q
+    unfolding printed_of pick
+    words_put n words s h = rw (← a.number, n, ← a.config, ← a.image, ← s) h

@@ -1,149 +1,127 @@
 // Prints the generics of an image file, which stands on standard input, by their names; with the argument "words" its words. A file that is refused gives
 // the line "refused" with document 01's number (specs/Generics.antt). What cannot be read or written is said on standard error.
-#![tactic(auto)]
+#![tactic(auto, using(printing::proofs::Printers::prints_then))]
 
 ghost use Rattle.parsing.specs.Words.{printed};
-ghost use Rattle.printing.specs.Puts.{Puts};
+ghost use Rattle.printing.specs.Printers.{Prints};
 ghost use Rattle.yam_config.specs.Claims.{ReadBack};
-ghost use Rattle.yam_config.specs.Generics.{generic_line, lines_from, generics_text, printed_of};
+ghost use Rattle.yam_config.specs.Generics.{generic_line, generics_text, printed_of};
 
-use files::{NAME_BYTES, argument, argument_count, read_all};
-use printing::{put_bytes, put_decimal, put_hex, put_refusal};
+use files::{Failure, NAME_BYTES, argument, argument_count, read_all};
+use opening::{FILE_BYTES, WORDS};
+use printing::Printer;
 use std::io::Read;
+use std::rt::Env;
 use words::Config;
-
-const WORDS: usize = 8192;
-
-const FILE_BYTES: usize = 34304;
 
 // The bytes of 8,192 lines of a word.
 const PAGE_BYTES: usize = 73728;
 
 const WORD_DIGITS: usize = 8;
 
-fn put_generic(page: &mut [u8], at: usize, name: &[u8], value: u32) -> usize
-    ensures { Puts page.old at (generic_line name.now value) result page.new }
-{
-    let i = put_bytes(page, at, name);
-    let j = put_bytes(page, i, b"=");
-    let k = put_decimal(page, j, value as u64);
-    put_bytes(page, k, b"\n")
-}
+const GENERICS: usize = 19;
 
-fn put_memories(c: Config, page: &mut [u8], at: usize) -> usize
-    ensures { Puts page.old at (lines_from c 0 7) result page.new }
-{
-    let i = put_generic(page, at, b"IM_SIZE", c.imsize);
-    let j = put_generic(page, i, b"REG_WIDTH", c.regwidth);
-    let k = put_generic(page, j, b"REG_SIZE", c.regsize);
-    let l = put_generic(page, k, b"RM_SIZE", c.rmsize);
-    let m = put_generic(page, l, b"PC_STACK", c.pcstack);
-    let n = put_generic(page, m, b"DM_SIZE", c.dmsize);
-    put_generic(page, n, b"DM_PIPE", c.dmpipe)
-}
+const USAGE: &str = "usage: yam_config [words] <IMAGE";
 
-fn put_options(c: Config, page: &mut [u8], at: usize) -> usize
-    ensures { Puts page.old at (lines_from c 7 5) result page.new }
+fn put_generic(p: &mut Printer, name: &[u8], value: u32)
+    ensures { Prints p.old (generic_line name.now value) p.new }
 {
-    let i = put_generic(page, at, b"ALU_LEVEL", c.alulevel);
-    let j = put_generic(page, i, b"ALU_MULT", c.alumult);
-    let k = put_generic(page, j, b"ALU_SPR", c.aluspr);
-    let l = put_generic(page, k, b"IOP_IF", c.iopif);
-    put_generic(page, l, b"IOP_RMW", c.ioprmw)
-}
-
-fn put_rest(c: Config, page: &mut [u8], at: usize) -> usize
-    ensures { Puts page.old at (lines_from c 12 7) result page.new }
-{
-    let i = put_generic(page, at, b"YAM_CLK", c.yamclk);
-    let j = put_generic(page, i, b"YAM_SREG3", c.yamsreg3);
-    let k = put_generic(page, j, b"ALU_3OP", c.alu3op);
-    let l = put_generic(page, k, b"IRQ_IF", c.irqif);
-    let m = put_generic(page, l, b"COPM_SIZE", c.copmsize);
-    let n = put_generic(page, m, b"IM_WIDTH", c.imwidth);
-    put_generic(page, n, b"YAM_DBG", c.yamdbg)
+    p.bytes(name);
+    p.bytes(b"=");
+    p.decimal(u64::from(value));
+    p.bytes(b"\n");
 }
 
 // Puts the generics' lines, which name the configuration again (specs/Claims.antt).
-fn put_generics(c: Config, page: &mut [u8]) -> usize
-    ensures { Puts page.old 0 (generics_text c) result page.new × ReadBack }
+fn put_generics(p: &mut Printer, c: Config)
+    ensures { Prints p.old (generics_text c) p.new × ReadBack }
 {
-    let i = put_memories(c, page, 0);
-    let j = put_options(c, page, i);
-    put_rest(c, page, j)
+    let generics: [(&[u8], u32); GENERICS] = [
+        (b"IM_SIZE", c.imsize),
+        (b"REG_WIDTH", c.regwidth),
+        (b"REG_SIZE", c.regsize),
+        (b"RM_SIZE", c.rmsize),
+        (b"PC_STACK", c.pcstack),
+        (b"DM_SIZE", c.dmsize),
+        (b"DM_PIPE", c.dmpipe),
+        (b"ALU_LEVEL", c.alulevel),
+        (b"ALU_MULT", c.alumult),
+        (b"ALU_SPR", c.aluspr),
+        (b"IOP_IF", c.iopif),
+        (b"IOP_RMW", c.ioprmw),
+        (b"YAM_CLK", c.yamclk),
+        (b"YAM_SREG3", c.yamsreg3),
+        (b"ALU_3OP", c.alu3op),
+        (b"IRQ_IF", c.irqif),
+        (b"COPM_SIZE", c.copmsize),
+        (b"IM_WIDTH", c.imwidth),
+        (b"YAM_DBG", c.yamdbg),
+    ];
+    for (name, value) in generics {
+        put_generic(p, name, value);
+    }
 }
 
-fn put_words(words: &[u32], page: &mut [u8]) -> usize
-    ensures { Puts page.old 0 (printed words.now) result page.new }
+fn put_words(p: &mut Printer, words: &[u32])
+    ensures { Prints p.old (printed words.now) p.new }
 {
-    let mut at = 0;
-    let mut i = 0;
-    while i < words.len() {
-        let j = put_hex(page, at, WORD_DIGITS, words[i] as u64);
-        at = put_bytes(page, j, b"\n");
-        i += 1;
+    for w in words {
+        p.hex(WORD_DIGITS, u64::from(*w));
+        p.bytes(b"\n");
     }
-    at
 }
 
 // Opens the file and puts its generics, its words where they are asked for, or its refusal.
-fn put_file(file: &[u8], asked: bool, image: &mut [u32], page: &mut [u8]) -> usize
-    ensures { Puts page.old 0 (printed_of asked file.now image.old) result page.new }
+fn put_file(p: &mut Printer, file: &[u8], asked: bool, image: &mut [u32])
+    ensures { Prints p.old (printed_of asked file.now image.old) p.new }
 {
-    let l = opening::open(file, image);
-    let number = l.number;
-    if number != 0 {
-        return put_refusal(page, 0, number);
+    match opening::open(file, image) {
+        Err(refusal) => p.refusal(refusal.number()),
+        Ok(c) => {
+            if asked {
+                put_words(p, opening::first(c.imsize as usize, image));
+            } else {
+                put_generics(p, c);
+            }
+        }
     }
-    let c = l.config;
-    if !asked {
-        return put_generics(c, page);
-    }
-    let size = opening::count(c.imsize as usize, image);
-    put_words(&image[..size], page)
 }
 
-// Whether an argument is "words".
-fn is_words(a: &[u8]) -> bool {
-    if a.len() != 5 {
-        return false;
+// Whether the words are asked for.
+fn words_asked<'a>(rt: &impl Env) -> Result<bool, Failure<'a>> {
+    let arguments = argument_count(rt);
+    if arguments == 1 {
+        return Ok(false);
     }
-    (a[0] == b'w') & (a[1] == b'o') & (a[2] == b'r') & (a[3] == b'd') & (a[4] == b's')
+    let mut word = [0u8; NAME_BYTES];
+    let Ok(length) = argument(rt, 1, &mut word) else {
+        return Err(Failure::Usage("yam_config: the argument is missing or too long"));
+    };
+    let words: &[u8] = b"words";
+    if (arguments != 2) | (&word[..length] != words) {
+        return Err(Failure::Usage(USAGE));
+    }
+    Ok(true)
 }
 
-fn usage(rt: &impl Eprint) {
-    let _ = eprintln!(rt; "usage: yam_config [words] <IMAGE");
-}
-
-fn print(rt: &(impl Print + Eprint), from: &mut impl Read, asked: bool) {
+// Reads the image file and prints what is asked for.
+fn print<'a>(rt: &(impl Env + Print), from: &mut impl Read) -> Result<(), Failure<'a>> {
+    let asked = words_asked(rt)?;
     let mut file = [0u8; FILE_BYTES + 1];
-    let input = read_all(rt, "standard input", from, &mut file);
-    if input.failed {
-        return;
-    }
-    let bytes = input.bytes;
+    let bytes = read_all("standard input", from, &mut file)?;
     let mut image = [0u32; WORDS];
     let mut page = [0u8; PAGE_BYTES];
-    let n = put_file(&file[..bytes], asked, &mut image, &mut page);
-    files::print(rt, &page, n);
+    let mut p = Printer {
+        page: &mut page,
+        at: 0,
+    };
+    put_file(&mut p, &file[..bytes], asked, &mut image);
+    let end = p.at;
+    files::print(rt, &page, end)
 }
 
 fn main(rt: HostRuntime) {
-    let arguments = argument_count(&rt);
-    if arguments == 1 {
-        print(&rt, &mut rt.stdin(), false);
-        return;
+    if let Err(why) = print(&rt, &mut rt.stdin()) {
+        let _ = eprintln!(rt; "{why}");
     }
-    let mut word = [0u8; NAME_BYTES];
-    let first = argument(&rt, 1, &mut word);
-    if first.failed {
-        let _ = eprintln!(rt; "yam_config: the argument is missing or too long");
-        return;
-    }
-    let length = first.bytes;
-    if (arguments != 2) | !is_words(&word[..length]) {
-        usage(&rt);
-        return;
-    }
-    print(&rt, &mut rt.stdin(), true);
 }

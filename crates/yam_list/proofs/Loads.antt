@@ -4,7 +4,7 @@ use mathlib.Core.Path.{◌≡◌, refl, sym, ap, ◌∙◌}
 use mathlib.Core.Bool.{Bool, true, false}
 use mathlib.Core.List.{List, [], ◌∷◌, ◌++◌}
 use native.Mathlib.Omega.{arith}
-use borrow.Author.Tests.{eqb-true, eqb-false, eq-eqb, lt-leb, leb-true, leb-false}
+use borrow.Author.Tests.{eqb-true, eqb-false, eq-eqb, ne_eqb, lt-leb, leb-true, leb-false}
 use lib.Dec.{eqb, leb}
 use lib.ListN.{length, take, drop, length-append, length-drop}
 use lib.Seq.{take_all, take_at, length-take-le}
@@ -13,7 +13,7 @@ use Rattle.laws.specs.First.{first_failing, Every, numbered, obeyed}
 use Rattle.laws.specs.Test.{Test, test, Holds}
 use Rattle.words.specs.declared.Config.{Config}
 use Rattle.words.specs.Configs.{lawful}
-use Rattle.image.specs.declared.Loaded.{Loaded}
+use Rattle.std.proofs.Common.{Result, Ok, Err}
 use Rattle.image.specs.File.{word_at, image_word, image_words, config_of, blocks_for}
 use Rattle.image.specs.Loading.{Load, zeros, block_tests, blocks_tests, head_tests, rest_tests, load_number, no_config, load_of}
 use Rattle.image.proofs.Lists.{length_words}
@@ -21,8 +21,9 @@ use Rattle.image.proofs.loading.Laws.{load_is, rest_passed}
 use Rattle.text.specs.Claims.{lines_to_end}
 use Rattle.yam_list.specs.Printing.{word_limit, file_number, printed_of}
 use Rattle.printing.specs.Numerals.{refusal_line}
-use Rattle.opening.specs.Opening.{file_limit, number_of, opened, open_of}
-use Rattle.yam_list.specs.Claims.{to_come, CutOff, Opens}
+use Rattle.opening.specs.declared.Refusal.{Refusal}
+use Rattle.opening.specs.Opening.{file_limit, number_of, open_of, refusal_number, Answers}
+use Rattle.yam_list.specs.Claims.{to_come, size_of, Ready, CutOff, Opens}
 use Rattle.yam_list.proofs.Pages.{run_joined}
 
 -- every number is below 100
@@ -117,68 +118,69 @@ cut_off f = go (leb (length f) file_limit) refl
 
 -- what loading the file answers
 
-module _ (f image after : List ℕ) (n : ℕ) (c : Config) (l : Loaded) (size : length image ≡ word_limit)
-    (loads : ◌≡◌ {A = Load} (record { number = n; config = c; image = after }) (load_of f image)) (number : l.number ≡ pick (leb (length f) file_limit) n 2) (config : l.config ≡ c) where
-  number_is : n ≡ load_number f word_limit
-  number_is = ap (λ (r : Load). r.number) loads ∙ load_number_lem f image ∙ ap (load_number f) size
+module _ (f image after : List ℕ) (size : length image ≡ word_limit) where
+  number_is : (load_of f image).number ≡ load_number f word_limit
+  number_is = load_number_lem f image ∙ ap (load_number f) size
 
-  file_number_lem : l.number ≡ file_number f
-  unfolding file_number number_of
-  file_number_lem = number ∙ ap (λ (k : ℕ). pick (leb (length f) file_limit) k 2) number_is
+  open_number : (open_of f image).number ≡ file_number f
+  unfolding open_of file_number
+  open_number = ap (number_of (length f)) number_is
 
-  l_small : l.number < 100
-  l_small = rw number (either (λ (k : ℕ). k < 100) (leb (length f) file_limit) n 2 (λ _. rw number_is (load_small f word_limit)) (λ _. omega arith))
+  open_small : (open_of f image).number < 100
+  unfolding open_of number_of
+  open_small = either (λ (k : ℕ). k < 100) (leb (length f) file_limit) (load_of f image).number 2 (λ _. rw number_is (load_small f word_limit)) (λ _. omega arith)
 
-  module _ (z : l.number ≡ 0) where
-    load_passed : load_number f (length image) ≡ 0
-    load_passed =
-        ap (load_number f) size ∙ sym number_is ∙ (both (leb (length f) file_limit) n 2 (λ _ k. absurd (omega (arith, k))) (sym number ∙ z)).1
+  -- a file that was opened
+  module _ (c : Config) (a : Answers (open_of f image) (Ok c) after) where
+    passed : load_number f (length image) ≡ 0
+    unfolding open_of number_of
+    passed =
+        sym (load_number_lem f image)
+        ∙ (both (leb (length f) file_limit) (load_of f image).number 2 (λ _ k. absurd (omega (arith, k))) (sym a.number)).1
 
-    config_is : l.config ≡ config_of f
-    config_is = config ∙ ap (λ (r : Load). r.config) (loads ∙ loaded_is f image load_passed)
+    config_is : c ≡ config_of f
+    unfolding open_of
+    config_is = a.config ∙ ap (λ (r : Load). r.config) (loaded_is f image passed)
 
     image_is : after ≡ image_words f 0 (word_at f 1) ++ drop (word_at f 1) image
-    image_is = ap (λ (r : Load). r.image) (loads ∙ loaded_is f image load_passed)
+    unfolding open_of
+    image_is = a.image ∙ ap (λ (r : Load). r.image) (loaded_is f image passed)
 
     words_are : take (word_at f 1) after ≡ image_words f 0 (word_at f 1)
     words_are = rw image_is (take_at (image_words f 0 (word_at f 1)) _ (word_at f 1) (length_words (image_word f) 0 (word_at f 1)))
 
-    is_allowed : Holds (lawful l.config)
-    is_allowed = rw config_is (config_lawful f image load_passed)
+    is_allowed : Holds (lawful c)
+    is_allowed = rw config_is (config_lawful f image passed)
 
-    is_held : l.config.imsize ≤ length after
+    is_held : c.imsize ≤ length after
     is_held =
         rw (config_is, image_is)
         (omega (arith, length-append (image_words f 0 (word_at f 1)) (drop (word_at f 1) image), length_words (image_word f) 0 (word_at f 1)))
 
-    lines_are : lines_to_end l.config (take l.config.imsize after) 0 ≡ lines_to_end (config_of f) (image_words f 0 (config_of f).imsize) 0
+    lines_are : lines_to_end c (take c.imsize after) 0 ≡ lines_to_end (config_of f) (image_words f 0 (config_of f).imsize) 0
     lines_are = rw config_is (ap (λ (i : List ℕ). lines_to_end (config_of f) i 0) words_are)
 
-  prints_file : to_come l after 0 ≡ printed_of f
-  unfolding to_come printed_of pick
-  prints_file = rw (← file_number_lem) (go (eqb l.number 0) refl)
-    where
-      go : (b : Bool) → eqb l.number 0 ≡ b →
-          pick b (lines_to_end l.config (take l.config.imsize after) 0) (refusal_line l.number) ≡
-          pick b (lines_to_end (config_of f) (image_words f 0 (config_of f).imsize) 0) (refusal_line l.number)
-      go true e = lines_are (eqb-true l.number 0 e)
-      go false e = refl
+  is_ready : (l : Result Config Refusal) → Answers (open_of f image) l after → Ready l after
+  is_ready (Ok c) a = record { short = tt; allowed = is_allowed c a; held = is_held c a }
+  is_ready (Err e) a = record { short = let n = a.number in let s = open_small in omega arith; allowed = tt; held = tt }
 
-  pub opens : Opens f image l after
-  opens = record {
-    number = file_number_lem;
-    loaded = ap (λ (r : Load). r.image) loads;
-    size = ap (λ (r : Load). length r.image) loads ∙ load_length f image ∙ size;
-    ready = record { short = l_small; allowed = is_allowed; held = is_held };
-    prints = prints_file;
-    cut_off = cut_off;
-    pages = λ ts h. run_joined (to_come l after) l.config.imsize 0 ts h ∙ prints_file;
-  }
+  prints_file : (l : Result Config Refusal) → Answers (open_of f image) l after → to_come l after 0 ≡ printed_of f
+  unfolding to_come printed_of pick
+  prints_file (Ok c) a = rw (← open_number, ← a.number) (lines_are c a)
+  prints_file (Err e) a = rw (← open_number, ← a.number, ne_eqb (refusal_number e) 0 a.refused)
+
+  open_image : (open_of f image).image ≡ (load_of f image).image
+  unfolding open_of
+  open_image = refl
 
 -- what `opening::open` answers and leaves
-pub opened_opens : (f image after : List ℕ) (l : Loaded) → length image ≡ word_limit → opened l after ≡ open_of f image → Opens f image l after
-unfolding open_of number_of
-opened_opens f image after l size e =
-    let x = load_of f image in
-    opens f image after x.number x.config l size (ap (λ (z : List ℕ). record { number = x.number; config = x.config; image = z }) (ap (λ (z : Load). z.image) e))
-    (ap (λ (z : Load). z.number) e) (ap (λ (z : Load). z.config) e)
+pub opened_opens : (f image after : List ℕ) (l : Result Config Refusal) → length image ≡ word_limit → Answers (open_of f image) l after → Opens f image l after
+opened_opens f image after l size a = record {
+  number = a.number ∙ open_number f image after size;
+  loaded = a.image ∙ open_image f image after size;
+  size = ap length (a.image ∙ open_image f image after size) ∙ load_length f image ∙ size;
+  ready = is_ready f image after size l a;
+  prints = prints_file f image after size l a;
+  cut_off = cut_off;
+  pages = λ ts h. run_joined (to_come l after) (size_of l) 0 ts h ∙ prints_file f image after size l a;
+}

@@ -3,34 +3,33 @@
 // What cannot be read or written is said on standard error.
 #![tactic(auto)]
 
-ghost use Rattle.std.specs.Prelude.{◌≡◌, ◌<◌, take};
+ghost use Rattle.std.specs.Prelude.{◌<◌, ◌≤◌, length, take};
+ghost use Rattle.laws.specs.Test.{Holds};
 ghost use Rattle.text.specs.Claims.{Lists, lines_to_end};
 ghost use Rattle.printing.specs.Numerals.{refusal_line};
-ghost use Rattle.yam_list.specs.Claims.{Opens, Prints, Ready, to_come};
+ghost use Rattle.words.specs.Configs.{lawful};
+ghost use Rattle.yam_list.specs.Claims.{Opens, Prints, Ready, size_of, to_come};
 
-use image::Loaded;
+use files::Failure;
+use opening::{FILE_BYTES, Refusal, WORDS};
+use std::io::Read;
 use text::Listed;
 use words::Config;
-
-const WORDS: usize = 8192;
-
-const FILE_BYTES: usize = 34304;
 
 const PAGE_BYTES: usize = 65536;
 
 // The bytes of the longest line of a refusal.
 const REFUSAL_BYTES: usize = 11;
 
-// How many bytes of a page were filled, the address of the next line, and whether more is to come.
+// How many bytes of a page were filled, and the address of the next line where more is to come.
 #[derive(Clone, Copy)]
 struct Printed {
     bytes: usize,
-    next: usize,
-    more: bool,
+    next: Option<usize>,
 }
 
 // Loads the file into the image.
-fn load_file(file: &[u8], image: &mut [u32; WORDS]) -> Loaded
+fn load_file(file: &[u8], image: &mut [u32; WORDS]) -> Result<Config, Refusal>
     ensures { Opens file.now image.old result image.new }
 {
     opening::open(file, image)
@@ -44,16 +43,11 @@ fn print_refusal(n: u32, next: usize, page: &mut [u8]) -> Printed
     if page.len() < REFUSAL_BYTES {
         return Printed {
             bytes: 0,
-            next,
-            more: true,
+            next: Some(next),
         };
     }
     let bytes = printing::put_refusal(page, 0, n);
-    Printed {
-        bytes,
-        next,
-        more: false,
-    }
+    Printed { bytes, next: None }
 }
 
 // Lists as many of the image's lines from address `first` on as a page holds.
@@ -64,59 +58,66 @@ fn list_page(c: Config, image: &[u32], first: usize, page: &mut [u8]) -> Listed
 }
 
 // Prints lines of a listing on a page.
-fn print_lines(l: Loaded, image: &[u32], next: usize, page: &mut [u8]) -> Printed
-    requires { Ready l image.now × (l.number ≡ 0) }
-    ensures { Prints (lines_to_end l.config (take l.config.imsize image.now)) l.config.imsize next page.old result page.new }
+fn print_lines(c: Config, image: &[u32], next: usize, page: &mut [u8]) -> Printed
+    requires { Holds (lawful c) × (c.imsize ≤ length image.now) }
+    ensures { Prints (lines_to_end c (take c.imsize image.now)) c.imsize next page.old result page.new }
 {
-    let c = l.config;
     let size = c.imsize as usize;
     let r = list_page(c, &image[..size], next, page);
     Printed {
         bytes: r.place,
-        next: r.next,
-        more: r.number != 0,
+        next: match r.outcome {
+            Ok(()) => None,
+            Err(_) => Some(r.next),
+        },
     }
 }
 
 // Prints on a page what is to come, from the line of address `next` on.
-fn print_page(l: Loaded, image: &[u32], next: usize, page: &mut [u8]) -> Printed
-    requires { Ready l image.now }
-    ensures { Prints (to_come l image.now) l.config.imsize next page.old result page.new }
+fn print_page(
+    loaded: Result<Config, Refusal>,
+    image: &[u32],
+    next: usize,
+    page: &mut [u8],
+) -> Printed
+    requires { Ready loaded image.now }
+    ensures { Prints (to_come loaded image.now) (size_of loaded) next page.old result page.new }
 {
-    let number = l.number;
-    if number != 0 {
-        return print_refusal(number, next, page);
+    match loaded {
+        Ok(c) => print_lines(c, image, next, page),
+        Err(refusal) => print_refusal(refusal.number(), next, page),
     }
-    print_lines(l, image, next, page)
 }
 
 // Writes page after page, until no more is to come.
-fn print_all(rt: &(impl Print + Eprint), l: Loaded, image: &[u32])
-    requires { Ready l image.now }
+fn print_all(
+    rt: &impl Print,
+    loaded: Result<Config, Refusal>,
+    image: &[u32],
+) -> Result<(), Failure<'static>>
+    requires { Ready loaded image.now }
 {
     let mut page = [0u8; PAGE_BYTES];
-    let mut next: usize = 0;
-    let mut more = true;
-    while more {
-        let r = print_page(l, image, next, &mut page);
-        let bytes = r.bytes;
-        if let Err(why) = rt.write_all(&page[..bytes]) {
-            files::fail(rt, "standard output", why);
-            return;
-        }
-        next = r.next;
-        more = r.more;
+    let mut come = Some(0);
+    while let Some(next) = come {
+        let r = print_page(loaded, image, next, &mut page);
+        files::print(rt, &page, r.bytes)?;
+        come = r.next;
     }
+    Ok(())
+}
+
+// Reads the image file and prints its listing.
+fn list(rt: &impl Print, from: &mut impl Read) -> Result<(), Failure<'static>> {
+    let mut file = [0u8; FILE_BYTES + 1];
+    let bytes = files::read_all("standard input", from, &mut file)?;
+    let mut image = [0u32; WORDS];
+    let loaded = load_file(&file[..bytes], &mut image);
+    print_all(rt, loaded, &image)
 }
 
 fn main(rt: HostRuntime) {
-    let mut file = [0u8; FILE_BYTES + 1];
-    let input = files::read_all(&rt, "standard input", &mut rt.stdin(), &mut file);
-    if input.failed {
-        return;
+    if let Err(why) = list(&rt, &mut rt.stdin()) {
+        let _ = eprintln!(rt; "{why}");
     }
-    let bytes = input.bytes;
-    let mut image = [0u32; WORDS];
-    let l = load_file(&file[..bytes], &mut image);
-    print_all(&rt, l, &image);
 }

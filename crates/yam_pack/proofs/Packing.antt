@@ -17,18 +17,22 @@ use Rattle.words.specs.Configs.{lawful}
 use Rattle.image.specs.File.{blocks_for, file_size}
 use Rattle.image.specs.Storing.{Store, store_tests, store_of, block_of, blocks_of, head_of, file_of}
 use Rattle.image.specs.Claims.{Stores}
+use Rattle.image.specs.declared.Refusal.{Refusal}
+use Rattle.image.specs.Answers.{refusal_number, number_of}
+use Rattle.image.proofs.Answers.{numbered as refusal_numbered}
 use Rattle.image.proofs.storing.Laws.{length_bytes, length_block, length_blocks}
-use Rattle.parsing.specs.declared.Generics.{Generics}
-use Rattle.parsing.specs.declared.HexWords.{HexWords}
+use Rattle.std.proofs.Common.{Result, Ok, Err}
+use Rattle.parsing.specs.declared.BadEntry.{BadEntry}
+use Rattle.parsing.specs.declared.BadLine.{BadLine}
 use Rattle.parsing.specs.Words.{Reading, good, bad, words_in, Call, call, call_of}
-use Rattle.parsing.specs.Generics.{Gathered, all, malformed, gathered_in, generics_of}
-use Rattle.parsing.specs.Claims.{LineFromOne, EntryFromOne, ReadsWords, NamesGenerics}
+use Rattle.parsing.specs.Generics.{Gathered, all, malformed, gathered_in, config_of, generics_of}
+use Rattle.parsing.specs.Claims.{ReadsWords, NamesGenerics}
 use Rattle.text.specs.Pages.{written}
 use Rattle.printing.specs.Puts.{Puts}
-use Rattle.yam_pack.specs.declared.Outcome.{Outcome}
-use Rattle.yam_pack.specs.declared.Outcome.TheVariants.{Length, Entry, Line, Refused, Written}
-use Rattle.yam_pack.specs.Packing.{Packed, long, entry, line, refused, file, config_bytes, text_bytes, most_words, pack_tests, image_of, with_words, with_config, packed_of, text_of, printed_of}
-use Rattle.yam_pack.specs.Claims.{outcome_of, page_of, Packs, Follows}
+use Rattle.yam_pack.specs.declared.errors.PackError.{PackError}
+use Rattle.yam_pack.specs.declared.errors.PackError.TheVariants.{TooLong, BadEntry as WrongEntry, BadLine as WrongLine, Refused}
+use Rattle.yam_pack.specs.Packing.{long, entry, line, refused, file, config_bytes, text_bytes, most_words, pack_tests, image_of, with_words, with_config, packed_of, text_of, printed_of}
+use Rattle.yam_pack.specs.Claims.{text_of_error, Packs}
 
 -- The image of so many words
 
@@ -53,34 +57,48 @@ length_file c ws =
     let rest = blocks_of 1 ws 0 (blocks_for c.imsize) in
     omega (arith, length_bytes (first ++ rest), length-append first rest, length_block 0 (head_of c) 0, length_blocks 1 ws 0 (blocks_for c.imsize))
 
-stored_file : (c : Config) (ws buffer after : List ℕ) (r : ℕ) → Holds (lawful c) → length ws ≡ c.imsize → length buffer ≡ file_size c.imsize →
-    Stores c ws buffer r after → after ≡ file_of c ws
-unfolding store_of store_tests pick
-stored_file c ws buffer after r l n m s =
-    let z : first_failing (store_tests c (length ws) (length buffer)) ≡ 0 = none_fails (store_tests c (length ws) (length buffer)) (l, (n, (m, tt))) in
-    ap (λ (x : Store). x.file) s.answer ∙ rw z
+-- words and a buffer of the right lengths are stored
 
-module _ (c : Config) (n : ℕ) (words p : List ℕ) (number : ℕ) (e : number ≡ first_failing (pack_tests c n)) where
-  pub packs_refused : (number ≡ 0 → ⊥) → Packs (image_of c n (take n words)) p (Refused number) p
-  packs_refused h = rw (← is_refused c n (take n words) number e h) (record { answer = refl; page = refl })
+module _ (c : Config) (ws buffer after : List ℕ) (l : Holds (lawful c)) (n : length ws ≡ c.imsize) (m : length buffer ≡ file_size c.imsize) where
+  all_pass : first_failing (store_tests c (length ws) (length buffer)) ≡ 0
+  unfolding store_tests
+  all_pass = none_fails (store_tests c (length ws) (length buffer)) (l, (n, (m, tt)))
 
-  pub packs_file : (after : List ℕ) (size r : ℕ) → number ≡ 0 → length words ≡ most_words → length p ≡ 34304 → (size ≡ file_size n) × (size ≤ 34304) →
-      Stores c (take n words) (take size p) r after → Packs (image_of c n (take n words)) p (Written size) (after ++ drop size p)
-  packs_file after size r z lw lp s st =
-      let q : first_failing (pack_tests c n) ≡ 0 = sym e ∙ z in
-      let o = passed c n q in
-      let o1 = o.1 in
-      let o2 = o.2 in
-      let s0 = s.0 in
-      let s1 = s.1 in
-      let k : length (take n words) ≡ n = length-take-le n words (omega arith) in
-      let m : length (take size p) ≡ size = length-take-le size p (omega arith) in
-      let f : size ≡ file_size c.imsize = rw o1 at s0 in
-      let a : after ≡ file_of c (take n words) = stored_file c (take n words) (take size p) after r o.0 (k ∙ o1) (m ∙ f) st in
-      let l : length (file_of c (take n words)) ≡ size = length_file c (take n words) ∙ sym f in
-      let g : after ++ drop size p ≡ sets p 0 (file_of c (take n words)) =
-      rw (a, sets-eq (file_of c (take n words)) p 0 (omega arith), l, zero-add) in
-      rw (image_is c n (take n words) q) (record { answer = ap Written (sym l); page = g })
+  stored_file : (r : Result (Unit {0}) Refusal) → Stores c ws buffer r after → after ≡ file_of c ws
+  unfolding store_of pick
+  stored_file r s = ap (λ (x : Store). x.file) s.answer ∙ rw all_pass
+
+  not_refused : (e : Refusal) → Stores c ws buffer (Err e) after → ⊥
+  unfolding store_of number_of
+  not_refused e s = refusal_numbered e (ap (λ (x : Store). x.number) s.answer ∙ all_pass)
+
+module _ (c : Config) (n : ℕ) (words p : List ℕ) where
+  pub packs_refused : (e : Refusal) → refusal_number e ≡ first_failing (pack_tests c n) → Packs (image_of c n (take n words)) p (Err (Refused e)) p
+  packs_refused e q = (sym (is_refused c n (take n words) (refusal_number e) q (refusal_numbered e)), refl)
+
+  module _ (after : List ℕ) (size : ℕ) (z : 0 ≡ first_failing (pack_tests c n)) (lw : length words ≡ most_words) (lp : length p ≡ 34304)
+      (s : (size ≡ file_size n) × (size ≤ 34304)) where
+    all_words : length (take n words) ≡ c.imsize
+    all_words = let o = passed c n (sym z) in let o2 = o.2 in length-take-le n words (omega arith) ∙ o.1
+
+    of_size : size ≡ file_size c.imsize
+    of_size = let o1 = (passed c n (sym z)).1 in let s0 = s.0 in rw o1 at s0
+
+    whole_buffer : length (take size p) ≡ file_size c.imsize
+    whole_buffer = let s1 = s.1 in length-take-le size p (omega arith) ∙ of_size
+
+    pub packs_stored : (e : Refusal) → Stores c (take n words) (take size p) (Err e) after → ⊥
+    packs_stored e st = not_refused c (take n words) (take size p) after (passed c n (sym z)).0 all_words whole_buffer e st
+
+    pub packs_file : (r : Result (Unit {0}) Refusal) → Stores c (take n words) (take size p) r after → Packs (image_of c n (take n words)) p (Ok size) (after ++ drop size p)
+    packs_file r st =
+        let s1 = s.1 in
+        let a : after ≡ file_of c (take n words) =
+        stored_file c (take n words) (take size p) after (passed c n (sym z)).0 all_words whole_buffer r st in
+        let l : length (file_of c (take n words)) ≡ size = length_file c (take n words) ∙ sym of_size in
+        let g : after ++ drop size p ≡ sets p 0 (file_of c (take n words)) =
+        rw (a, sets-eq (file_of c (take n words)) p 0 (omega arith), l, zero-add) in
+        (file_of c (take n words), image_is c n (take n words) (sym z), sym l, g)
 
 -- what stands beyond the words that there is room for does not matter, as more are refused
 image_same : (c : Config) (lent ws : List ℕ) → length lent ≡ most_words → image_of c (length ws) (take (length ws) (sets lent 0 ws)) ≡ image_of c (length ws) ws
@@ -98,58 +116,57 @@ image_same c lent ws h = go (eqb (first_failing (pack_tests c (length ws))) 0) r
 -- The texts, in their order
 
 module _ (config text p : List ℕ) where
-  pub config_long : config_bytes < length config → Packs (packed_of config text) p (Length config_bytes) p
+  pub config_long : config_bytes < length config → Packs (packed_of config text) p (Err (TooLong config_bytes)) p
   unfolding packed_of pick
-  config_long h = rw (lt-leb (length config) config_bytes h) (record { answer = refl; page = refl })
+  config_long h = (rw (lt-leb (length config) config_bytes h), refl)
 
-  module _ (short : length config ≤ config_bytes) (g : Generics) (n : NamesGenerics config g) where
+  module _ (short : length config ≤ config_bytes) where
     first : packed_of config text ≡ with_config (gathered_in config) text
     unfolding packed_of pick
     first = rw (le-leb (length config) config_bytes short)
 
-    pub bad_entry : (g.entry ≡ 0 → ⊥) → Packs (packed_of config text) p (Entry g.entry) p
-    bad_entry z = rw first (go (gathered_in config) n.answer)
+    pub bad_entry : (e : BadEntry) → NamesGenerics config (Err e) → Packs (packed_of config text) p (Err (WrongEntry e.entry)) p
+    bad_entry e n = (first ∙ go (gathered_in config) n.answer, refl)
       where
-        go : (x : Gathered) → g ≡ generics_of x → Packs (with_config x text) p (Entry g.entry) p
-        go (all vs) e = absurd (z (ap (λ (y : Generics). y.entry) e))
-        go (malformed k) e = record { answer = ap Entry (ap (λ (y : Generics). y.entry) e); page = refl }
+        go : (x : Gathered) → Err e ≡ generics_of x → with_config x text ≡ entry e.entry
+        go (all vs) q = cc
+        go (malformed k) q = let i : e ≡ record { entry = k } = cc in rw i
 
-    module _ (z : g.entry ≡ 0) where
-      second : packed_of config text ≡ pick (leb (length text) text_bytes) (with_words g.config (words_in text)) (long text_bytes)
-      second = rw first (go (gathered_in config) n.answer n.counted)
+    module _ (c : Config) (n : NamesGenerics config (Ok c)) where
+      second : packed_of config text ≡ pick (leb (length text) text_bytes) (with_words c (words_in text)) (long text_bytes)
+      second = first ∙ go (gathered_in config) n.answer
         where
-          go : (x : Gathered) → g ≡ generics_of x → EntryFromOne x →
-              with_config x text ≡ pick (leb (length text) text_bytes) (with_words g.config (words_in text)) (long text_bytes)
-          go (all vs) e k = rw (ap (λ (y : Generics). y.config) e)
-          go (malformed m) e k = let q : g.entry ≡ m = ap (λ (y : Generics). y.entry) e in absurd (omega arith)
+          go : (x : Gathered) → Ok c ≡ generics_of x → with_config x text ≡ pick (leb (length text) text_bytes) (with_words c (words_in text)) (long text_bytes)
+          go (all vs) q = let i : c ≡ config_of vs = cc in rw i
+          go (malformed m) q = cc
 
-      pub text_long : text_bytes < length text → Packs (packed_of config text) p (Length text_bytes) p
+      pub text_long : text_bytes < length text → Packs (packed_of config text) p (Err (TooLong text_bytes)) p
       unfolding pick
-      text_long h = rw (second, lt-leb (length text) text_bytes h) (record { answer = refl; page = refl })
+      text_long h = (second ∙ rw (lt-leb (length text) text_bytes h), refl)
 
-      module _ (few : length text ≤ text_bytes) (lent after : List ℕ) (h : HexWords) (r : ReadsWords text lent h after) where
-        third : packed_of config text ≡ with_words g.config (words_in text)
+      module _ (few : length text ≤ text_bytes) (lent after : List ℕ) where
+        third : packed_of config text ≡ with_words c (words_in text)
         unfolding pick
-        third = rw (second, le-leb (length text) text_bytes few)
+        third = second ∙ rw (le-leb (length text) text_bytes few)
 
-        pub bad_line : (h.line ≡ 0 → ⊥) → Packs (packed_of config text) p (Line h.line) p
-        bad_line z = rw third (go (words_in text) r.answer)
+        pub bad_line : (e : BadLine) → ReadsWords text lent (Err e) after → Packs (packed_of config text) p (Err (WrongLine e.line)) p
+        bad_line e r = (third ∙ go (words_in text) r.answer, refl)
           where
-            go : (x : Reading) → call h.count h.line after ≡ call_of x lent → Packs (with_words g.config x) p (Line h.line) p
-            go (good ws) e = absurd (z (ap (λ (y : Call). y.line) e))
-            go (bad k) e = record { answer = ap Line (ap (λ (y : Call). y.line) e); page = refl }
+            go : (x : Reading) → call (Err e) after ≡ call_of x lent → with_words c x ≡ line e.line
+            go (good ws) q = let i = ap (λ (y : Call). y.answer) q in cc
+            go (bad k) q = let i = ap (λ (y : Call). y.answer) q in let j : e ≡ record { line = k } = cc in rw j
 
-        pub packs_all : h.line ≡ 0 → length lent ≡ most_words → (x : Outcome) (q : List ℕ) → Packs (image_of g.config h.count (take h.count after)) p x q →
-            Packs (packed_of config text) p x q
-        packs_all z m x q k = rw (third, ← go (words_in text) r.answer r.counted) k
+        pub packs_all : (count : ℕ) → ReadsWords text lent (Ok count) after → length lent ≡ most_words → (x : Result ℕ PackError) (q : List ℕ) →
+            Packs (image_of c count (take count after)) p x q → Packs (packed_of config text) p x q
+        packs_all count r m x q k = rw (third, ← go (words_in text) r.answer) k
           where
-            go : (y : Reading) → call h.count h.line after ≡ call_of y lent → LineFromOne y →
-                image_of g.config h.count (take h.count after) ≡ with_words g.config y
-            go (good ws) e k =
-                let n : h.count ≡ length ws = ap (λ (y : Call). y.count) e in
+            go : (y : Reading) → call (Ok count) after ≡ call_of y lent → image_of c count (take count after) ≡ with_words c y
+            go (good ws) e =
+                let i = ap (λ (y : Call). y.answer) e in
+                let n : count ≡ length ws = cc in
                 let a : after ≡ sets lent 0 ws = ap (λ (y : Call). y.words) e in
-                rw (n, a) (image_same g.config lent ws m)
-            go (bad j) e k = let q : h.line ≡ j = ap (λ (y : Call). y.line) e in absurd (omega arith)
+                rw (n, a) (image_same c lent ws m)
+            go (bad j) e = let i = ap (λ (y : Call). y.answer) e in cc
 
 -- What is printed
 
@@ -161,15 +178,12 @@ file_put bytes p = record {
   over = λ h. omega arith;
 }
 
-pub printed : (config text p q u : List ℕ) (r : Outcome) (m : ℕ) → Packs (packed_of config text) p r q → Follows r q m u → Puts p 0 (printed_of config text) m u
-unfolding printed_of text_of
-printed config text p q u r m k f = go (packed_of config text) k.answer k.page
-  where
-    go : (x : Packed) → r ≡ outcome_of x → q ≡ page_of x p → Puts p 0 (text_of x) m u
-    go (long n) a e = rw (a, e) at f
-    go (entry n) a e = rw (a, e) at f
-    go (line n) a e = rw (a, e) at f
-    go (refused n) a e = rw (a, e) at f
-    go (file bytes) a e =
-        let h : (m ≡ length bytes) × (u ≡ sets p 0 bytes) = rw (a, e) at f in
-        rw (h.0, h.1) (file_put bytes p)
+module _ (config text p q : List ℕ) where
+  pub file_printed : (n : ℕ) → Packs (packed_of config text) p (Ok n) q → Puts p 0 (printed_of config text) n q
+  unfolding printed_of text_of
+  file_printed n k = rw (k.1, k.2, k.3) (file_put k.0 p)
+
+  pub error_printed : (u : List ℕ) (e : PackError) (m : ℕ) → Packs (packed_of config text) p (Err e) q → Puts q 0 (text_of_error e) m u →
+      Puts p 0 (printed_of config text) m u
+  unfolding printed_of
+  error_printed u e m k f = rw (k.0, ← k.1) f

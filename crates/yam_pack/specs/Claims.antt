@@ -1,36 +1,28 @@
 -- What the program's functions promise on the way to its answer, where p is the page before and q the page after.
-use Rattle.std.specs.Prelude.{ℕ, ◌≡◌, List, length}
+use Rattle.std.specs.Prelude.{ℕ, ◌≡◌, List, Result, MatchResult, length}
 use Rattle.std.proofs.lemmas.List.Edits.{sets}
-use Rattle.syntax.specs.Quoted.{quoted}
-use Rattle.printing.specs.Numerals.{refusal_line}
-use Rattle.printing.specs.Puts.{Puts}
-use Rattle.yam_pack.specs.declared.Outcome.{Outcome}
-use Rattle.yam_pack.specs.declared.Outcome.TheVariants.{Length, Entry, Line, Refused, Written}
-use Rattle.yam_pack.specs.Packing.{Packed, long, entry, line, refused, file, malformed_line}
+use Rattle.laws.specs.First.{first_failing}
+use Rattle.words.specs.declared.Config.{Config}
+use Rattle.image.specs.declared.Refusal.{Refusal}
+use Rattle.image.specs.Answers.{refusal_number}
+use Rattle.yam_pack.specs.declared.errors.PackError.{PackError}
+use Rattle.yam_pack.specs.declared.errors.PackError.TheVariants.{TooLong, BadEntry, BadLine, Refused}
+use Rattle.yam_pack.specs.Packing.{Packed, long, entry, line, refused, file, pack_tests, text_of}
 
--- what comes of the texts, as the code answers it; a file stands on the page from its start on, and nothing else is written there
-abbrev pub outcome_of : Packed → Outcome
-outcome_of (long n) = Length n
-outcome_of (entry n) = Entry n
-outcome_of (line n) = Line n
-outcome_of (refused n) = Refused n
-outcome_of (file bytes) = Written (length bytes)
+-- the number of the first test that fails, 0 where none does
+abbrev pub Passes : Config → ℕ → Result (Unit {0}) Refusal → Type 0
+Passes c n r = MatchResult r (λ u. 0 ≡ first_failing (pack_tests c n)) (λ e. refusal_number e ≡ first_failing (pack_tests c n))
 
-abbrev pub page_of : Packed → List ℕ → List ℕ
-page_of (long n) p = p
-page_of (entry n) p = p
-page_of (line n) p = p
-page_of (refused n) p = p
-page_of (file bytes) p = sets p 0 bytes
+-- what comes of the texts where they give no file
+abbrev pub error_of : PackError → Packed
+error_of (TooLong n) = long n
+error_of (BadEntry n) = entry n
+error_of (BadLine n) = line n
+error_of (Refused e) = refused (refusal_number e)
 
-pub record Packs (x : Packed) (p : List ℕ) (r : Outcome) (q : List ℕ) : Type 0 where
-  pub answer : r ≡ outcome_of x
-  pub page : q ≡ page_of x p
+abbrev pub text_of_error : PackError → List ℕ
+text_of_error e = text_of (error_of e)
 
--- the line of an outcome put on the page; a file stands there already
-abbrev pub Follows : Outcome → List ℕ → ℕ → List ℕ → Type 0
-Follows (Length n) p m q = Puts p 0 (malformed_line (quoted "malformed length ") n) m q
-Follows (Entry n) p m q = Puts p 0 (malformed_line (quoted "malformed entry ") n) m q
-Follows (Line n) p m q = Puts p 0 (malformed_line (quoted "malformed line ") n) m q
-Follows (Refused n) p m q = Puts p 0 (refusal_line n) m q
-Follows (Written n) p m q = (m ≡ n) × (q ≡ p)
+-- a file stands on the page from its start on, so many bytes, and nothing else is written there; without a file nothing is written
+abbrev pub Packs : Packed → List ℕ → Result ℕ PackError → List ℕ → Type 0
+Packs x p r q = MatchResult r (λ n. (bytes : List ℕ) × (x ≡ file bytes) × (n ≡ length bytes) × (q ≡ sets p 0 bytes)) (λ e. (x ≡ error_of e) × (q ≡ p))

@@ -4,54 +4,44 @@
 #![tactic(auto)]
 
 ghost use Rattle.std.specs.Prelude.{◌≡◌, ◌≤◌, length, take};
-ghost use Rattle.laws.specs.First.{first_failing};
 ghost use Rattle.image.specs.File.{file_size};
 ghost use Rattle.printing.specs.Puts.{Puts};
-ghost use Rattle.yam_pack.specs.Packing.{pack_tests, image_of, packed_of, malformed_line, printed_of};
-ghost use Rattle.yam_pack.specs.Claims.{Packs, Follows};
+ghost use Rattle.yam_pack.specs.Packing.{image_of, packed_of, malformed_line, printed_of};
+ghost use Rattle.yam_pack.specs.Claims.{Passes, Packs, text_of_error};
 
-use files::{NAME_BYTES, argument, argument_count, read_all, read_file};
+mod errors;
+
+use errors::PackError;
+use files::{Failure, NAME_BYTES, argument, argument_count, read_all, read_file};
+use image::Refusal;
+use opening::{FILE_BYTES, WORDS};
 use printing::{put_bytes, put_decimal, put_refusal};
 use std::io::Read;
-use std::rt::Files;
+use std::rt::{Env, Files};
 use words::Config;
 
 const CONFIG_BYTES: usize = 4096;
 
 const TEXT_BYTES: usize = 1048576;
 
-const WORDS: usize = 8192;
-
-const FILE_BYTES: usize = 34304;
-
 const BLOCK_BYTES: usize = 512;
 
 const BLOCK_WORDS: usize = 126;
 
-// What comes of the two texts: a text above so many bytes, a malformed entry or line, a refusal, or a file of so many bytes.
-#[derive(Clone, Copy)]
-enum Outcome {
-    Length(usize),
-    Entry(usize),
-    Line(usize),
-    Refused(u32),
-    Written(usize),
-}
-
-// Why n words are not packed: 1 or 2; 0 where they are.
-fn refusal(c: Config, n: usize) -> u32
-    ensures { result ≡ first_failing (pack_tests c n) }
+// Whether n words are packed.
+fn check(c: Config, n: usize) -> Result<(), Refusal>
+    ensures { Passes c n result }
 {
     if !c.lawful() {
-        return 1;
+        return Err(Refusal::Unlawful);
     }
     if n != c.imsize as usize {
-        return 2;
+        return Err(Refusal::WrongLength);
     }
     if WORDS < n {
-        return 2;
+        return Err(Refusal::WrongLength);
     }
-    0
+    Ok(())
 }
 
 // The bytes of the file of n words.
@@ -59,21 +49,18 @@ fn file_size(n: usize) -> usize
     requires { n ≤ 8192 }
     ensures { (result ≡ file_size n) × (result ≤ 34304) }
 {
-    (n + BLOCK_WORDS - 1) / BLOCK_WORDS * BLOCK_BYTES + BLOCK_BYTES
+    n.div_ceil(BLOCK_WORDS) * BLOCK_BYTES + BLOCK_BYTES
 }
 
-// Packs n words, of which those that there is room for stand in `words`.
-fn pack_words(c: Config, n: usize, words: &[u32], page: &mut [u8]) -> Outcome
+// Packs n words, of which those that there is room for stand in `words`, and answers how many bytes the file has.
+fn pack_words(c: Config, n: usize, words: &[u32], page: &mut [u8]) -> Result<usize, PackError>
     requires { (length words.now ≡ 8192) × (length page.old ≡ 34304) }
     ensures { Packs (image_of c n (take n words.now)) page.old result page.new }
 {
-    let number = refusal(c, n);
-    if number != 0 {
-        return Outcome::Refused(number);
-    }
+    check(c, n)?;
     let size = file_size(n);
-    image::store(c, &words[..n], &mut page[..size]);
-    Outcome::Written(size)
+    image::store(c, &words[..n], &mut page[..size])?;
+    Ok(size)
 }
 
 // Packs the words of a text under the configuration that another names.
@@ -82,27 +69,18 @@ fn pack(
     text: &[u8],
     words: &mut [u32; WORDS],
     page: &mut [u8; FILE_BYTES],
-) -> Outcome
+) -> Result<usize, PackError>
     ensures { Packs (packed_of config.now text.now) page.old result page.new }
 {
     if CONFIG_BYTES < config.len() {
-        return Outcome::Length(CONFIG_BYTES);
+        return Err(PackError::TooLong(CONFIG_BYTES));
     }
-    let g = parsing::generics_of(config);
-    let entry = g.entry;
-    if entry != 0 {
-        return Outcome::Entry(entry);
-    }
+    let c = parsing::generics_of(config)?;
     if TEXT_BYTES < text.len() {
-        return Outcome::Length(TEXT_BYTES);
+        return Err(PackError::TooLong(TEXT_BYTES));
     }
-    let h = parsing::hex_words(text, words);
-    let line = h.line;
-    if line != 0 {
-        return Outcome::Line(line);
-    }
-    let c = g.config;
-    pack_words(c, h.count, words, page)
+    let count = parsing::hex_words(text, words)?;
+    pack_words(c, count, words, page)
 }
 
 fn put_malformed(page: &mut [u8], name: &[u8], n: usize) -> usize
@@ -113,15 +91,14 @@ fn put_malformed(page: &mut [u8], name: &[u8], n: usize) -> usize
     put_bytes(page, j, b"\n")
 }
 
-fn put_outcome(r: Outcome, page: &mut [u8]) -> usize
-    ensures { Follows r page.old result page.new }
+fn put_error(page: &mut [u8], why: PackError) -> usize
+    ensures { Puts page.old 0 (text_of_error why) result page.new }
 {
-    match r {
-        Outcome::Length(n) => put_malformed(page, b"malformed length ", n),
-        Outcome::Entry(n) => put_malformed(page, b"malformed entry ", n),
-        Outcome::Line(n) => put_malformed(page, b"malformed line ", n),
-        Outcome::Refused(number) => put_refusal(page, 0, number),
-        Outcome::Written(n) => n,
+    match why {
+        PackError::TooLong(n) => put_malformed(page, b"malformed length ", n),
+        PackError::BadEntry(n) => put_malformed(page, b"malformed entry ", n),
+        PackError::BadLine(n) => put_malformed(page, b"malformed line ", n),
+        PackError::Refused(refusal) => put_refusal(page, 0, refusal.number()),
     }
 }
 
@@ -134,69 +111,62 @@ fn put_packed(
 ) -> usize
     ensures { Puts page.old 0 (printed_of config.now text.now) result page.new }
 {
-    let r = pack(config, text, words, page);
-    put_outcome(r, page)
+    match pack(config, text, words, page) {
+        Ok(size) => size,
+        Err(why) => put_error(page, why),
+    }
 }
 
 // Reads WORDS, packs the two texts and prints what comes of them.
-fn pack_file(
-    rt: &(impl Files + Print + Eprint),
-    path: &[u8],
+fn pack_file<'a>(
+    rt: &(impl Files + Print),
+    name: &'a [u8],
     config: &[u8],
     text: &mut [u8],
     words: &mut [u32; WORDS],
     page: &mut [u8; FILE_BYTES],
-) {
-    let input = read_file(rt, path, text);
-    if input.failed {
-        return;
-    }
-    let n = input.bytes;
-    let bytes = put_packed(config, &text[..n], words, page);
-    files::print(rt, page, bytes);
+) -> Result<(), Failure<'a>> {
+    let bytes = read_file(rt, name, text)?;
+    let end = put_packed(config, &text[..bytes], words, page);
+    files::print(rt, page, end)
 }
 
-// Reads CONFIG first.
-fn pack_named(
-    rt: &(impl Files + Print + Eprint),
+// Reads CONFIG first. `name` takes the name of WORDS.
+fn pack_named<'a>(
+    rt: &(impl Env + Files + Print),
     from: &mut impl Read,
-    path: &[u8],
+    name: &'a mut [u8],
     config: &mut [u8],
     text: &mut [u8; TEXT_BYTES + 1],
     words: &mut [u32; WORDS],
     page: &mut [u8; FILE_BYTES],
-) {
-    let input = read_all(rt, "standard input", from, config);
-    if input.failed {
-        return;
+) -> Result<(), Failure<'a>> {
+    if argument_count(rt) != 2 {
+        return Err(Failure::Usage("usage: yam_pack WORDS <CONFIG >OUT.img"));
     }
-    let n = input.bytes;
-    pack_file(rt, path, &config[..n], text, words, page);
+    let Ok(length) = argument(rt, 1, name) else {
+        return Err(Failure::Usage("yam_pack: the argument is too long"));
+    };
+    let bytes = read_all("standard input", from, config)?;
+    pack_file(rt, &name[..length], &config[..bytes], text, words, page)
 }
 
 fn main(rt: HostRuntime) {
-    if argument_count(&rt) != 2 {
-        let _ = eprintln!(rt; "usage: yam_pack WORDS <CONFIG >OUT.img");
-        return;
-    }
-    let mut path = [0u8; NAME_BYTES];
-    let name = argument(&rt, 1, &mut path);
-    if name.failed {
-        let _ = eprintln!(rt; "yam_pack: the argument is too long");
-        return;
-    }
-    let length = name.bytes;
+    let mut name = [0u8; NAME_BYTES];
     let mut config = [0u8; CONFIG_BYTES + 1];
     let mut text = [0u8; TEXT_BYTES + 1];
     let mut words = [0u32; WORDS];
     let mut page = [0u8; FILE_BYTES];
-    pack_named(
+    let packed = pack_named(
         &rt,
         &mut rt.stdin(),
-        &path[..length],
+        &mut name,
         &mut config,
         &mut text,
         &mut words,
         &mut page,
     );
+    if let Err(why) = packed {
+        let _ = eprintln!(rt; "{why}");
+    }
 }

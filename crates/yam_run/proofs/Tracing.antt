@@ -12,7 +12,7 @@ use Rattle.state.proofs.StaysValid.{step_valid}
 use Rattle.state.proofs.Unchanged.{refused_stays}
 use Rattle.text.proofs.Written.{between}
 use Rattle.printing.specs.Puts.{Puts}
-use Rattle.yam_run.specs.Running.{line_of}
+use Rattle.yam_run.specs.Running.{line_of, number_of, cycles_of, bytes_of}
 use Rattle.yam_run.specs.Tracing.{report_in, trace_text, turns_text, TracesJoin, trace_lines, TraceAsRun}
 
 -- bytes that had room stand at the page's start
@@ -32,19 +32,19 @@ traces_join c image inputs zero done cycles s (t ∷ ts) h = absurd h
 traces_join c image inputs (suc k) done cycles s [] h = absurd h
 traces_join c image inputs (suc k) done cycles s (t ∷ ts) h =
     rw (← h.0.answer)
-    (go (eqb t.answer.number 0) refl (λ z. traces_join c image inputs k (suc done) ((cycles + t.answer.cycles) % 2 ^ 64) t.after ts (h.2 z)))
+    (go (eqb (number_of t.answer) 0) refl (λ z. traces_join c image inputs k (suc done) ((cycles + cycles_of t.answer) % 2 ^ 64) t.after ts (h.2 z)))
   where
-    go : (b : Bool) → eqb t.answer.number 0 ≡ b →
-        (t.answer.number ≡ 0 → turns_text c (suc done) ((cycles + t.answer.cycles) % 2 ^ 64) t.after ts ≡
-        trace_text c image inputs k (suc done) ((cycles + t.answer.cycles) % 2 ^ 64) t.after) →
-        pick b (take t.answer.bytes t.left ++ turns_text c (suc done) ((cycles + t.answer.cycles) % 2 ^ 64) t.after ts)
-        (report_in c t.answer.number done cycles t.after) ≡
-        pick b (line_of c image (suc done) cycles s (record { number = t.answer.number; cycles = t.answer.cycles; state = t.after }) ++
-        trace_text c image inputs k (suc done) ((cycles + t.answer.cycles) % 2 ^ 64) t.after)
-        (report_in c t.answer.number done cycles t.after)
+    go : (b : Bool) → eqb (number_of t.answer) 0 ≡ b →
+        (number_of t.answer ≡ 0 → turns_text c (suc done) ((cycles + cycles_of t.answer) % 2 ^ 64) t.after ts ≡
+        trace_text c image inputs k (suc done) ((cycles + cycles_of t.answer) % 2 ^ 64) t.after) →
+        pick b (take (bytes_of t.answer) t.left ++ turns_text c (suc done) ((cycles + cycles_of t.answer) % 2 ^ 64) t.after ts)
+        (report_in c (number_of t.answer) done cycles t.after) ≡
+        pick b (line_of c image (suc done) cycles s (record { number = number_of t.answer; cycles = cycles_of t.answer; state = t.after }) ++
+        trace_text c image inputs k (suc done) ((cycles + cycles_of t.answer) % 2 ^ 64) t.after)
+        (report_in c (number_of t.answer) done cycles t.after)
     go true e later =
-        let z = eqb-true t.answer.number 0 e in
-        let l : take t.answer.bytes t.left ≡ line_of c image (suc done) cycles s (record { number = t.answer.number; cycles = t.answer.cycles; state = t.after }) =
+        let z = eqb-true (number_of t.answer) 0 e in
+        let l : take (bytes_of t.answer) t.left ≡ line_of c image (suc done) cycles s (record { number = number_of t.answer; cycles = cycles_of t.answer; state = t.after }) =
         put_whole _ (h.0.prints z) h.1 ∙ ap (λ (o : Outcome). line_of c image (suc done) cycles s o) (sym h.0.answer) in
         rw (l, later z)
     go false e later = refl

@@ -1,5 +1,5 @@
 -- What a whole trace prints, and that traced steps one after another print it.
-use Rattle.std.specs.Prelude.{◌≡◌, ℕ, zero, suc, ◌+◌, ◌%◌, ◌^◌, ◌<◌, ◌≤◌, List, [], ◌∷◌, ◌++◌, length, take, ◌==◌}
+use Rattle.std.specs.Prelude.{◌≡◌, ℕ, zero, suc, ◌+◌, ◌%◌, ◌^◌, ◌<◌, ◌≤◌, List, [], ◌∷◌, ◌++◌, length, take, ◌==◌, Result}
 use Rattle.laws.specs.Choice.{pick}
 use Rattle.laws.specs.Test.{Holds}
 use Rattle.words.specs.declared.Config.{Config}
@@ -8,9 +8,10 @@ use Rattle.state.specs.Claims.{Valid}
 use Rattle.state.specs.Ranges.{budget_fits}
 use Rattle.state.specs.Run.{run_call}
 use Rattle.state.specs.Step.{step_of}
+use Rattle.machine.specs.declared.Stop.{Stop}
 use Rattle.report.specs.Report.{report_of}
-use Rattle.yam_run.specs.declared.Traced.{Traced}
-use Rattle.yam_run.specs.Running.{line_of, Traces}
+use Rattle.yam_run.specs.declared.trace.Traced.{Traced}
+use Rattle.yam_run.specs.Running.{line_of, number_of, cycles_of, bytes_of, Traces}
 
 -- the report of a state
 abbrev pub report_in : Config → ℕ → ℕ → ℕ → State → List ℕ
@@ -28,7 +29,7 @@ trace_text c image inputs (suc k) done cycles s =
 -- a traced step: the page before it, its answer, and state and page after it
 pub record Turn : Type 0 where
   pub page : List ℕ
-  pub answer : Traced
+  pub answer : Result Traced Stop
   pub after : State
   pub left : List ℕ
 
@@ -38,16 +39,16 @@ Turns c image inputs zero done cycles s [] = Unit {0}
 Turns c image inputs zero done cycles s (t ∷ ts) = ⊥
 Turns c image inputs (suc k) done cycles s [] = ⊥
 Turns c image inputs (suc k) done cycles s (t ∷ ts) =
-    Traces c image inputs s (suc done) cycles t.page t.answer t.after t.left × (t.answer.bytes ≤ length t.page) ×
-    (t.answer.number ≡ 0 → Turns c image inputs k (suc done) ((cycles + t.answer.cycles) % 2 ^ 64) t.after ts)
+    Traces c image inputs s (suc done) cycles t.page t.answer t.after t.left × (bytes_of t.answer ≤ length t.page) ×
+    (number_of t.answer ≡ 0 → Turns c image inputs k (suc done) ((cycles + cycles_of t.answer) % 2 ^ 64) t.after ts)
 
 -- what they print: the bytes that each left on its page, and the report of the state where they ended
 unfoldable pub turns_text : Config → ℕ → ℕ → State → List Turn → List ℕ
 turns_text c done cycles s [] = report_in c 0 done cycles s
 turns_text c done cycles s (t ∷ ts) =
-    pick (t.answer.number == 0)
-    (take t.answer.bytes t.left ++ turns_text c (suc done) ((cycles + t.answer.cycles) % 2 ^ 64) t.after ts)
-    (report_in c t.answer.number done cycles t.after)
+    pick (number_of t.answer == 0)
+    (take (bytes_of t.answer) t.left ++ turns_text c (suc done) ((cycles + cycles_of t.answer) % 2 ^ 64) t.after ts)
+    (report_in c (number_of t.answer) done cycles t.after)
 
 abbrev pub TracesJoin : Type 0
 TracesJoin =

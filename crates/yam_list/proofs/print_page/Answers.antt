@@ -2,8 +2,8 @@
 use Rattle.yam_list.proofs.Pages.{refusal_to_come, lines_to_come}
 use Rattle.yam_list.proofs.print_page.Goals as goal
 
-pub returns-then-number-ne0 : goal.returns-then-number-ne0
-returns-then-number-ne0 c = refusal_to_come c.args.l c.args.image.now _ _ _ _ c.if-number-ne0.true c.print_refusal.ensures
+pub returns-in-Ok : goal.returns-in-Ok
+returns-in-Ok c = rw c.in-Ok.is (lines_to_come c.in-Ok.c c.args.image.now _ _ _ _ c.print_lines.ensures)
 
-pub returns : goal.returns
-returns c = lines_to_come c.args.l c.args.image.now _ _ _ _ c.if-number-ne0.false c.print_lines.ensures
+pub returns-in-Err : goal.returns-in-Err
+returns-in-Err c = rw c.in-Err.is (refusal_to_come c.in-Err.refusal _ c.args.image.now _ _ _ _ c.number.ensures c.print_refusal.ensures)
