@@ -14,91 +14,21 @@
 // From # to the end of a line is a comment, which is printed as it stands.
 #![tactic(auto)]
 
-ghost use Rattle.std.specs.Prelude.{◌≤◌};
-
-mod input;
 mod source;
 
-use assembler::Assembled;
+use assembler::AssembleError;
 use std::io;
 use words::Config;
 
-// What a word holds before it is written.
+// How many cases are read at most.
+const MOST_CASES: u32 = 100000;
+
+// What a word holds before it is written, and how many are lent at most.
 const OLD: u32 = 0xa5a5a5a5;
 
-// Each value in a variable: fields are taken in the order of the input.
-fn config(rt: &impl Input) -> io::Result<Config> {
-    let imwidth = input::number(rt)?;
-    let imsize = input::number(rt)?;
-    let regwidth = input::number(rt)?;
-    let regsize = input::number(rt)?;
-    let rmsize = input::number(rt)?;
-    let pcstack = input::number(rt)?;
-    let dmsize = input::number(rt)?;
-    let dmpipe = input::number(rt)?;
-    let alulevel = input::number(rt)?;
-    let alumult = input::number(rt)?;
-    let aluspr = input::number(rt)?;
-    let iopif = input::number(rt)?;
-    let ioprmw = input::number(rt)?;
-    let yamclk = input::number(rt)?;
-    let yamsreg3 = input::number(rt)?;
-    let alu3op = input::number(rt)?;
-    let irqif = input::number(rt)?;
-    let copmsize = input::number(rt)?;
-    let yamdbg = input::number(rt)?;
-    Ok(Config {
-        imwidth,
-        imsize,
-        regwidth,
-        regsize,
-        rmsize,
-        pcstack,
-        dmsize,
-        dmpipe,
-        alulevel,
-        alumult,
-        aluspr,
-        iopif,
-        ioprmw,
-        yamclk,
-        yamsreg3,
-        alu3op,
-        irqif,
-        copmsize,
-        yamdbg,
-    })
-}
+const LENT: usize = 64;
 
-fn no_config() -> Config {
-    Config {
-        imwidth: 0,
-        imsize: 0,
-        regwidth: 0,
-        regsize: 0,
-        rmsize: 0,
-        pcstack: 0,
-        dmsize: 0,
-        dmpipe: 0,
-        alulevel: 0,
-        alumult: 0,
-        aluspr: 0,
-        iopif: 0,
-        ioprmw: 0,
-        yamclk: 0,
-        yamsreg3: 0,
-        alu3op: 0,
-        irqif: 0,
-        copmsize: 0,
-        yamdbg: 0,
-    }
-}
-
-fn within(n: usize, most: usize) -> usize
-    ensures { result ≤ most }
-{
-    if n < most { n } else { most }
-}
+const SOURCE_BYTES: usize = 16384;
 
 // Assembles the first bytes of the source with the first words lent.
 fn assemble_lent(
@@ -107,28 +37,17 @@ fn assemble_lent(
     bytes: usize,
     words: &mut [u32],
     lent: usize,
-) -> Assembled {
-    let end = within(bytes, source.len());
-    let size = within(lent, words.len());
+) -> Result<usize, AssembleError> {
+    let end = bytes.min(source.len());
+    let size = lent.min(words.len());
     assembler::assemble(c, &source[..end], &mut words[..size])
 }
 
-fn put_answer(rt: &impl Print, r: Assembled) -> io::Result<()> {
-    print!(rt; " {} {} {}", r.number, r.line, r.count)
-}
-
-fn put_word(rt: &impl Print, at: usize, word: u32) -> io::Result<()> {
-    if word != OLD {
-        print!(rt; " {at:x}={word:08x}")?;
+fn put_answer(rt: &impl Print, r: Result<usize, AssembleError>) -> io::Result<()> {
+    match r {
+        Ok(count) => print!(rt; " 0 0 {count}"),
+        Err(error) => print!(rt; " {} {} 0", error.number(), error.line().unwrap_or(0)),
     }
-    Ok(())
-}
-
-fn put_words(rt: &impl Print, words: &[u32]) -> io::Result<()> {
-    for at in 0..words.len() {
-        put_word(rt, at, words[at])?;
-    }
-    Ok(())
 }
 
 fn assemble_case(
@@ -138,36 +57,20 @@ fn assemble_case(
     bytes: usize,
     lent: usize,
 ) -> io::Result<()> {
-    let mut words = [OLD; 64];
+    let mut words = [OLD; LENT];
     let r = assemble_lent(c, source, bytes, &mut words, lent);
     print!(rt; "assemble")?;
     put_answer(rt, r)?;
     print!(rt; ":")?;
-    put_words(rt, &words)?;
+    for (at, word) in words.iter().enumerate() {
+        if *word != OLD {
+            print!(rt; " {at:x}={word:08x}")?;
+        }
+    }
     println!(rt)
 }
 
-// Assembles with one byte more; prints the answer unless it is the one of the byte before.
-fn byte_case(
-    rt: &impl Print,
-    c: Config,
-    source: &mut [u8],
-    bytes: usize,
-    lent: usize,
-    byte: u32,
-    before: Assembled,
-) -> io::Result<Assembled> {
-    let end = source::add(source, bytes, byte);
-    let mut words = [OLD; 64];
-    let r = assemble_lent(c, source, end, &mut words, lent);
-    if (r.number != before.number) | (r.line != before.line) | (r.count != before.count) {
-        print!(rt; "byte {byte:02x}")?;
-        put_answer(rt, r)?;
-        println!(rt)?;
-    }
-    Ok(r)
-}
-
+// Assembles with each byte more; prints an answer unless it is the one of the byte before.
 fn every_byte(
     rt: &impl Print,
     c: Config,
@@ -175,67 +78,60 @@ fn every_byte(
     bytes: usize,
     lent: usize,
 ) -> io::Result<()> {
-    let mut before = Assembled {
-        number: 0,
-        line: 0,
-        count: 65,
-    };
-    for byte in 0..256 {
-        before = byte_case(rt, c, source, bytes, lent, byte, before)?;
+    let mut before: Option<Result<usize, AssembleError>> = None;
+    for byte in 0..=255 {
+        let end = source::add(source, bytes, byte);
+        let mut words = [OLD; LENT];
+        let r = assemble_lent(c, source, end, &mut words, lent);
+        if before != Some(r) {
+            print!(rt; "byte {byte:02x}")?;
+            put_answer(rt, r)?;
+            println!(rt)?;
+        }
+        before = Some(r);
     }
     Ok(())
-}
-
-fn place(n: u32) -> usize {
-    n as usize
 }
 
 // One case that is not a configuration; answers the bytes of the source after it.
 fn case(
     rt: &(impl Input + Print),
-    b: u32,
+    letter: u8,
     c: Config,
     source: &mut [u8],
     bytes: usize,
 ) -> io::Result<usize> {
-    if b == 116 {
+    if letter == b't' {
         return source::add_text(rt, source, bytes);
     }
-    let n = input::number(rt)?;
-    if b == 114 {
-        return source::add_times(rt, source, bytes, n);
-    }
-    if b == 108 {
-        return Ok(source::add_labels(source, bytes, n));
-    }
-    if b == 97 {
-        assemble_case(rt, c, source, bytes, place(n))?;
-    }
-    if b == 101 {
-        every_byte(rt, c, source, bytes, place(n))?;
+    let n = case_input::word(rt)?;
+    match letter {
+        b'r' => return source::add_times(rt, source, bytes, n),
+        b'l' => return Ok(source::add_labels(source, bytes, n)),
+        b'a' => assemble_case(rt, c, source, bytes, n as usize)?,
+        b'e' => every_byte(rt, c, source, bytes, n as usize)?,
+        _ => (),
     }
     Ok(0)
 }
 
 fn main(rt: HostRuntime) -> io::Result<()> {
-    let mut c = no_config();
-    let mut source = [0u8; 16384];
+    let mut c = Config::default();
+    let mut source = [0u8; SOURCE_BYTES];
     let mut bytes: usize = 0;
-    let mut left: u32 = 100000;
-    while 0 < left {
-        left -= 1;
-        let b = input::byte(&rt)?;
-        if b == input::END {
-            return Ok(());
-        }
-        if b == 35 {
-            input::echo_line(&rt)?;
+    for _ in 0..MOST_CASES {
+        let letter = match case_input::byte(&rt)? {
+            Some(letter) => letter,
+            None => return Ok(()),
+        };
+        if letter == b'#' {
+            case_input::echo_line(&rt)?;
         } else {
-            let _ = input::byte(&rt)?;
-            if b == 107 {
-                c = config(&rt)?;
+            let _ = case_input::byte(&rt)?;
+            if letter == b'k' {
+                c = case_input::config(&rt)?;
             } else {
-                bytes = case(&rt, b, c, &mut source, bytes)?;
+                bytes = case(&rt, letter, c, &mut source, bytes)?;
             }
         }
     }

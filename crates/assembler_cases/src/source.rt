@@ -1,83 +1,82 @@
 // The source of the next case: a buffer, of which the first bytes are the text.
-use crate::input::{END, text_byte};
+ghost use Rattle.std.specs.Prelude.{◌<◌, IfOk};
+
+use case_input::{byte, digit};
 use std::io;
 
+const NEWLINE: u8 = b'\n';
+
+const BACKSLASH: u8 = b'\\';
+
+// How many bytes of a line are taken at most.
+const LINE_BYTES: usize = 100000;
+
 // Adds a byte, where there is room; answers how many there are.
-pub fn add(source: &mut [u8], size: usize, byte: u32) -> usize {
+pub fn add(source: &mut [u8], size: usize, byte: u8) -> usize {
     if size < source.len() {
-        source[size] = (byte % 256) as u8;
+        source[size] = byte;
         return size + 1;
     }
     size
 }
 
+// The value of the next byte as a hex digit, 0 where it is none.
+fn hex(rt: &impl Input) -> io::Result<u8>
+    ensures { IfOk result (λ d. d < 16) }
+{
+    Ok(byte(rt)?.and_then(digit).unwrap_or(0) % 16)
+}
+
+// A byte of a text, none where the line ends; after a backslash the byte of two hex digits.
+fn text_byte(rt: &impl Input) -> io::Result<Option<u8>> {
+    Ok(match byte(rt)? {
+        Some(NEWLINE) => None,
+        Some(BACKSLASH) => {
+            let high = hex(rt)?;
+            let low = hex(rt)?;
+            Some(high * 16 + low)
+        },
+        other => other,
+    })
+}
+
 // Adds what is left of the line.
 pub fn add_text(rt: &impl Input, source: &mut [u8], size: usize) -> io::Result<usize> {
     let mut end = size;
-    let mut left: u32 = 100000;
-    while 0 < left {
-        left -= 1;
-        let b = text_byte(rt)?;
-        if b == END {
-            return Ok(end);
+    for _ in 0..LINE_BYTES {
+        match text_byte(rt)? {
+            Some(b) => end = add(source, end, b),
+            None => return Ok(end),
         }
-        end = add(source, end, b);
     }
     Ok(end)
-}
-
-fn byte_at(source: &[u8], at: usize) -> u32 {
-    if at < source.len() {
-        wide(source[at])
-    } else {
-        0
-    }
-}
-
-fn wide(b: u8) -> u32 {
-    b as u32
-}
-
-// Adds the bytes from `from` to `end` again.
-fn add_again(source: &mut [u8], from: usize, end: usize, size: usize) -> usize {
-    let mut after = size;
-    let mut at = from;
-    while at < end {
-        let b = byte_at(source, at);
-        after = add(source, after, b);
-        at += 1;
-    }
-    after
 }
 
 // Adds what is left of the line, so many times.
 pub fn add_times(rt: &impl Input, source: &mut [u8], size: usize, times: u32) -> io::Result<usize> {
     let end = add_text(rt, source, size)?;
     let mut after = end;
-    let mut done: u32 = 1;
-    while done < times {
-        after = add_again(source, size, end, after);
-        done += 1;
+    for _ in 1..times {
+        for at in size..end {
+            let b = source.get(at).copied().unwrap_or(0);
+            after = add(source, after, b);
+        }
     }
     Ok(after)
 }
 
 // Letter k of label n, of the twenty from g on.
-fn letter(n: u32) -> u32 {
-    103 + n % 20
+fn letter(n: u32) -> u8 {
+    b'g' + (n % 20) as u8
 }
 
 // Adds lone labels of three letters, one a line, which differ up to 8,000.
 pub fn add_labels(source: &mut [u8], size: usize, count: u32) -> usize {
     let mut after = size;
-    let mut n: u32 = 0;
-    while n < count {
-        after = add(source, after, letter(n / 400));
-        after = add(source, after, letter(n / 20));
-        after = add(source, after, letter(n));
-        after = add(source, after, 58);
-        after = add(source, after, 10);
-        n += 1;
+    for n in 0..count {
+        for b in [letter(n / 400), letter(n / 20), letter(n), b':', NEWLINE] {
+            after = add(source, after, b);
+        }
     }
     after
 }

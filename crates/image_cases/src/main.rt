@@ -12,54 +12,57 @@
 
 mod buffers;
 mod cases;
-mod input;
 
 use std::io;
+use words::Config;
 
-// One case. `config` holds the configuration's numbers, `lengths` how much of the file and of the slice is lent.
+// How many cases are read at most.
+const MOST_CASES: u32 = 100000;
+
+// The configuration that is stored, and how much of the file and of the slice is lent.
+#[derive(Drop)]
+struct Setting {
+    config: Config,
+    bytes: usize,
+    words: usize,
+}
+
+// One case.
 fn case(
     rt: &(impl Input + Print),
-    b: u32,
-    config: &mut [u32; 19],
-    lengths: &mut [usize; 2],
+    letter: u8,
+    s: &mut Setting,
     file: &mut [u8; 2048],
     image: &mut [u32; 512],
 ) -> io::Result<()> {
-    if b == 35 {
-        return input::echo_line(rt);
+    if letter == b'#' {
+        return case_input::echo_line(rt);
     }
-    let _ = input::byte(rt)?;
-    if b == 107 {
-        cases::numbers(rt, config)?;
-    }
-    if b == 102 {
-        lengths[0] = buffers::file(rt, file)?;
-    }
-    if b == 105 {
-        lengths[1] = buffers::image(rt, image)?;
-    }
-    if b == 108 {
-        cases::load_case(rt, lengths[0], lengths[1], file, image)?;
-    }
-    if b == 115 {
-        cases::store_case(rt, *config, lengths[0], lengths[1], file, image)?;
+    let _ = case_input::byte(rt)?;
+    match letter {
+        b'k' => s.config = case_input::config(rt)?,
+        b'f' => s.bytes = buffers::file(rt, file)?,
+        b'i' => s.words = buffers::image(rt, image)?,
+        b'l' => cases::load_case(rt, s.bytes, s.words, file, image)?,
+        b's' => cases::store_case(rt, s.config, s.bytes, s.words, file, image)?,
+        _ => (),
     }
     Ok(())
 }
 
 fn main(rt: HostRuntime) -> io::Result<()> {
-    let mut config = [0u32; 19];
-    let mut lengths = [0usize; 2];
+    let mut s = Setting {
+        config: Config::default(),
+        bytes: 0,
+        words: 0,
+    };
     let mut file = [0u8; 2048];
     let mut image = [0u32; 512];
-    let mut left: u32 = 100000;
-    while 0 < left {
-        left -= 1;
-        let b = input::byte(&rt)?;
-        if b == input::END {
-            return Ok(());
+    for _ in 0..MOST_CASES {
+        match case_input::byte(&rt)? {
+            Some(letter) => case(&rt, letter, &mut s, &mut file, &mut image)?,
+            None => return Ok(()),
         }
-        case(&rt, b, &mut config, &mut lengths, &mut file, &mut image)?;
     }
     Ok(())
 }

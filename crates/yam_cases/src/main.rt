@@ -21,127 +21,45 @@
 #![tactic(auto)]
 
 mod check_cases;
-mod input;
 mod print;
 mod step_cases;
 mod word_cases;
 
 use std::io;
-use step_cases::Setting;
-use words::Config;
+use step_cases::{Lists, Setting};
 
-// A case that needs a configuration alone.
-fn word_case(rt: &(impl Input + Print), b: u32, c: Config) -> io::Result<()> {
-    if b == 114 {
-        word_cases::read_case(rt, c)?;
-    }
-    if b == 119 {
-        word_cases::write_case(rt, c)?;
-    }
-    if b == 116 {
-        check_cases::check_case(rt, c)?;
-    }
-    Ok(())
-}
+// How many cases are read at most.
+const MOST_CASES: u32 = 1000000;
 
-// The part of a state that the letter gives, and the setting with it.
-fn given(
-    rt: &impl Input,
-    b: u32,
-    s: Setting,
-    image: &mut [u32; 256],
-    inputs: &mut [u32; 64],
-    registers: &mut [u32; 1024],
-    memory: &mut [u32; 2048],
-    addresses: &mut [u32; 64],
-    values: &mut [u32; 64],
-) -> io::Result<Setting> {
-    if b == 107 {
-        return Ok(s.configured(word_cases::config(rt)?));
-    }
-    if b == 109 {
-        return Ok(s.with_machine(step_cases::machine(rt)?));
-    }
-    if b == 122 {
-        return Ok(s.with_machine(state::Machine::reset()));
-    }
-    if b == 105 {
-        return Ok(s.with_length(0, step_cases::list(rt, image)?));
-    }
-    if b == 112 {
-        return Ok(s.with_length(1, step_cases::list(rt, inputs)?));
-    }
-    if b == 103 {
-        return Ok(s.with_length(2, step_cases::cells(rt, registers)?));
-    }
-    if b == 100 {
-        return Ok(s.with_length(3, step_cases::cells(rt, memory)?));
-    }
-    if b == 97 {
-        return Ok(s.with_length(4, step_cases::list(rt, addresses)?));
-    }
-    if b == 118 {
-        return Ok(s.with_length(5, step_cases::list(rt, values)?));
-    }
-    Ok(s)
-}
-
-// One case, and the setting of the next.
+// One case.
 fn case(
     rt: &(impl Input + Print),
-    b: u32,
-    s: Setting,
-    image: &mut [u32; 256],
-    inputs: &mut [u32; 64],
-    registers: &mut [u32; 1024],
-    memory: &mut [u32; 2048],
-    addresses: &mut [u32; 64],
-    values: &mut [u32; 64],
-) -> io::Result<Setting> {
-    if b == 35 {
-        input::echo_line(rt)?;
-        return Ok(s);
+    letter: u8,
+    s: &mut Setting,
+    lists: &mut Lists,
+) -> io::Result<()> {
+    if letter == b'#' {
+        return case_input::echo_line(rt);
     }
-    let _ = input::byte(rt)?;
-    let c = s.config;
-    word_case(rt, b, c)?;
-    if b == 115 {
-        return step_cases::step_case(rt, s, image, inputs, registers, memory, addresses, values);
+    let _ = case_input::byte(rt)?;
+    match letter {
+        b'r' => word_cases::read_case(rt, s.config),
+        b'w' => word_cases::write_case(rt, s.config),
+        b't' => check_cases::check_case(rt, s.config),
+        b's' => step_cases::step_case(rt, s, lists),
+        b'u' => step_cases::run_case(rt, s, lists),
+        _ => step_cases::given(rt, letter, s, lists),
     }
-    if b == 117 {
-        return step_cases::run_case(rt, s, image, inputs, registers, memory, addresses, values);
-    }
-    given(
-        rt, b, s, image, inputs, registers, memory, addresses, values,
-    )
 }
 
 fn main(rt: HostRuntime) -> io::Result<()> {
-    let mut image = [0u32; 256];
-    let mut inputs = [0u32; 64];
-    let mut registers = [0u32; 1024];
-    let mut memory = [0u32; 2048];
-    let mut addresses = [0u32; 64];
-    let mut values = [0u32; 64];
-    let mut s = step_cases::no_setting();
-    let mut left: u32 = 1000000;
-    while 0 < left {
-        left -= 1;
-        let b = input::byte(&rt)?;
-        if b == input::END {
-            return Ok(());
+    let mut lists = Lists::new();
+    let mut s = Setting::new();
+    for _ in 0..MOST_CASES {
+        match case_input::byte(&rt)? {
+            Some(letter) => case(&rt, letter, &mut s, &mut lists)?,
+            None => return Ok(()),
         }
-        s = case(
-            &rt,
-            b,
-            s,
-            &mut image,
-            &mut inputs,
-            &mut registers,
-            &mut memory,
-            &mut addresses,
-            &mut values,
-        )?;
     }
     Ok(())
 }

@@ -1,275 +1,195 @@
 // Cases of steps and runs.
-ghost use Rattle.std.specs.Prelude.{◌≤◌};
-
-use crate::input::number;
-use crate::print;
-use machine::{Ran, Stepped};
+use crate::print::{put_changes, put_machine};
+use case_input::{length, word};
 use state::{Core, Machine};
 use std::io;
 use words::Config;
 
-// What a call is given beside the lists, and how much of each list is lent: image, inputs, register memory, data memory, the log's addresses
-// and values.
-#[derive(Clone, Copy)]
+// What a call is given beside the lists, and how much of each list is lent.
+#[derive(Drop)]
 pub struct Setting {
     pub config: Config,
-    pub machine: Machine,
-    pub lengths: [usize; 6],
+    machine: Machine,
+    image: usize,
+    inputs: usize,
+    registers: usize,
+    memory: usize,
+    addresses: usize,
+    values: usize,
 }
 
 impl Setting {
-    pub fn configured(mut self, c: Config) -> Setting {
-        self.config = c;
-        self
-    }
-
-    pub fn with_machine(mut self, m: Machine) -> Setting {
-        self.machine = m;
-        self
-    }
-
-    pub fn with_length(mut self, list: usize, n: usize) -> Setting {
-        if list < 6 {
-            self.lengths[list] = n;
+    pub fn new() -> Setting {
+        Setting {
+            config: Config::default(),
+            machine: Machine::reset(),
+            image: 0,
+            inputs: 0,
+            registers: 0,
+            memory: 0,
+            addresses: 0,
+            values: 0,
         }
-        self
     }
+}
 
-    // The length of a list, cut to the array that holds it.
-    fn length(self, list: usize, most: usize) -> usize
-        ensures { result ≤ most }
-    {
-        if list < 6 {
-            let lengths = self.lengths;
-            let n = lengths[list];
-            if n < most {
-                return n;
-            }
+// The lists: what is lent of each stands in a setting.
+#[derive(Clone, Copy)]
+pub struct Lists {
+    image: [u32; 256],
+    inputs: [u32; 64],
+    registers: [u32; 1024],
+    memory: [u32; 2048],
+    addresses: [u32; 64],
+    values: [u32; 64],
+}
+
+impl Lists {
+    pub fn new() -> Lists {
+        Lists {
+            image: [0; 256],
+            inputs: [0; 64],
+            registers: [0; 1024],
+            memory: [0; 2048],
+            addresses: [0; 64],
+            values: [0; 64],
         }
-        most
     }
-}
 
-pub fn no_setting() -> Setting {
-    Setting {
-        config: crate::word_cases::no_config(),
-        machine: Machine::reset(),
-        lengths: [0; 6],
+    // The cells that are not as before, and the end of the line.
+    fn put_changes(&self, rt: &impl Print, before: &Lists) -> io::Result<()> {
+        put_changes(rt, "registers", &before.registers, &self.registers)?;
+        put_changes(rt, "data", &before.memory, &self.memory)?;
+        put_changes(rt, "addresses", &before.addresses, &self.addresses)?;
+        put_changes(rt, "values", &before.values, &self.values)?;
+        println!(rt)
     }
-}
-
-pub fn place(n: u32) -> usize {
-    n as usize
-}
-
-fn wide(n: u32) -> u64 {
-    n as u64
-}
-
-fn put(to: &mut [u32], at: usize, value: u32) {
-    if at < to.len() {
-        to[at] = value;
-    }
-}
-
-fn clear(to: &mut [u32]) {
-    for at in 0..to.len() {
-        to[at] = 0;
-    }
-}
-
-// How many of n there are before the last `left`.
-pub fn passed(n: u32, left: u32) -> usize {
-    if left < n {
-        return place(n - left);
-    }
-    0
 }
 
 // A list: its length, and as many numbers.
-pub fn list(rt: &impl Input, to: &mut [u32]) -> io::Result<usize> {
-    clear(to);
-    let n = number(rt)?;
-    let mut left = n;
-    while 0 < left {
-        let value = number(rt)?;
-        put(to, passed(n, left), value);
-        left -= 1;
+pub fn list(rt: &impl Input, list: &mut [u32]) -> io::Result<usize> {
+    list.fill(0);
+    let n = length(rt)?;
+    for at in 0..n {
+        let value = word(rt)?;
+        if at < list.len() {
+            list[at] = value;
+        }
     }
-    Ok(place(n))
+    Ok(n)
 }
 
 // A memory: its length, a count, and as many pairs of cell and value.
-pub fn cells(rt: &impl Input, to: &mut [u32]) -> io::Result<usize> {
-    clear(to);
-    let n = number(rt)?;
-    let mut left = number(rt)?;
-    while 0 < left {
-        left -= 1;
-        let at = number(rt)?;
-        let value = number(rt)?;
-        put(to, place(at), value);
+fn cells(rt: &impl Input, cells: &mut [u32]) -> io::Result<usize> {
+    cells.fill(0);
+    let n = length(rt)?;
+    for _ in 0..word(rt)? {
+        let at = length(rt)?;
+        let value = word(rt)?;
+        if at < cells.len() {
+            cells[at] = value;
+        }
     }
-    Ok(place(n))
+    Ok(n)
 }
 
-// Each value in a variable: fields are taken in the order of the input.
 fn core(rt: &impl Input) -> io::Result<Core> {
-    let pc = place(number(rt)?);
-    let wp = place(number(rt)?);
-    let rx = place(number(rt)?);
-    let ry = place(number(rt)?);
-    let loaded = number(rt)?;
-    let n = wide(number(rt)?);
-    let z = wide(number(rt)?);
-    let spr7 = wide(number(rt)?);
-    let depth = place(number(rt)?);
-    let imask = wide(number(rt)?);
-    let saved = wide(number(rt)?);
-    let mode = wide(number(rt)?);
-    let posted = number(rt)?;
-    let port = wide(number(rt)?);
-    let taken = place(number(rt)?);
-    let logged = place(number(rt)?);
     Ok(Core {
-        pc,
-        wp,
-        rx,
-        ry,
-        loaded,
-        n,
-        z,
-        spr7,
-        depth,
-        imask,
-        saved,
-        mode,
-        posted,
-        port,
-        taken,
-        logged,
+        pc: length(rt)?,
+        wp: length(rt)?,
+        rx: length(rt)?,
+        ry: length(rt)?,
+        loaded: word(rt)?,
+        n: word(rt)? as u64,
+        z: word(rt)? as u64,
+        spr7: word(rt)? as u64,
+        depth: length(rt)?,
+        imask: word(rt)? as u64,
+        saved: word(rt)? as u64,
+        mode: word(rt)? as u64,
+        posted: word(rt)?,
+        port: word(rt)? as u64,
+        taken: length(rt)?,
+        logged: length(rt)?,
     })
 }
 
-pub fn machine(rt: &impl Input) -> io::Result<Machine> {
+fn machine(rt: &impl Input) -> io::Result<Machine> {
     let core = core(rt)?;
-    let mut stack = [0u32; 63];
+    let mut stack = [0; Machine::STACK_CELLS];
     let _ = list(rt, &mut stack)?;
     Ok(Machine { core, stack })
 }
 
+// The part of a state that the letter gives.
+pub fn given(rt: &impl Input, letter: u8, s: &mut Setting, lists: &mut Lists) -> io::Result<()> {
+    match letter {
+        b'k' => s.config = case_input::config(rt)?,
+        b'm' => s.machine = machine(rt)?,
+        b'z' => s.machine = Machine::reset(),
+        b'i' => s.image = list(rt, &mut lists.image)?,
+        b'p' => s.inputs = list(rt, &mut lists.inputs)?,
+        b'g' => s.registers = cells(rt, &mut lists.registers)?,
+        b'd' => s.memory = cells(rt, &mut lists.memory)?,
+        b'a' => s.addresses = list(rt, &mut lists.addresses)?,
+        b'v' => s.values = list(rt, &mut lists.values)?,
+        _ => (),
+    }
+    Ok(())
+}
+
+// The part of a list that is lent.
+fn lent(list: &[u32], n: usize) -> &[u32] {
+    &list[..n.min(list.len())]
+}
+
+fn lent_mut(list: &mut [u32], n: usize) -> &mut [u32] {
+    let most = n.min(list.len());
+    &mut list[..most]
+}
+
 // A step on the parts of the lists that are lent.
-fn step_lent(
-    s: Setting,
-    image: &[u32],
-    inputs: &[u32],
-    registers: &mut [u32],
-    memory: &mut [u32],
-    addresses: &mut [u32],
-    values: &mut [u32],
-) -> Stepped {
-    let config = s.config;
-    let m = s.machine;
-    let words = s.length(0, image.len());
-    let given = s.length(1, inputs.len());
-    let cells = s.length(2, registers.len());
-    let data = s.length(3, memory.len());
-    let places = s.length(4, addresses.len());
-    let room = s.length(5, values.len());
-    machine::step(
-        config,
-        &image[..words],
-        &inputs[..given],
-        m,
-        &mut registers[..cells],
-        &mut memory[..data],
-        &mut addresses[..places],
-        &mut values[..room],
-    )
-}
-
-fn run_lent(
-    s: Setting,
-    image: &[u32],
-    inputs: &[u32],
-    registers: &mut [u32],
-    memory: &mut [u32],
-    addresses: &mut [u32],
-    values: &mut [u32],
-    budget: u64,
-) -> Ran {
-    let config = s.config;
-    let m = s.machine;
-    let words = s.length(0, image.len());
-    let given = s.length(1, inputs.len());
-    let cells = s.length(2, registers.len());
-    let data = s.length(3, memory.len());
-    let places = s.length(4, addresses.len());
-    let room = s.length(5, values.len());
-    machine::run(
-        config,
-        &image[..words],
-        &inputs[..given],
-        m,
-        &mut registers[..cells],
-        &mut memory[..data],
-        &mut addresses[..places],
-        &mut values[..room],
-        budget,
-    )
-}
-
-pub fn step_case(
-    rt: &impl Print,
-    s: Setting,
-    image: &[u32; 256],
-    inputs: &[u32; 64],
-    registers: &mut [u32; 1024],
-    memory: &mut [u32; 2048],
-    addresses: &mut [u32; 64],
-    values: &mut [u32; 64],
-) -> io::Result<Setting> {
-    let old_registers = *registers;
-    let old_memory = *memory;
-    let old_addresses = *addresses;
-    let old_values = *values;
-    let r = step_lent(s, image, inputs, registers, memory, addresses, values);
-    let after = r.machine;
-    print::put_step(rt, r.number, r.cycles)?;
-    print::put_machine(rt, after)?;
-    print::put_changes(rt, b"; registers", &old_registers, registers)?;
-    print::put_changes(rt, b"; data", &old_memory, memory)?;
-    print::put_changes(rt, b"; addresses", &old_addresses, addresses)?;
-    print::put_changes(rt, b"; values", &old_values, values)?;
-    println!(rt)?;
-    Ok(s.with_machine(after))
-}
-
-pub fn run_case(
-    rt: &(impl Input + Print),
-    s: Setting,
-    image: &[u32; 256],
-    inputs: &[u32; 64],
-    registers: &mut [u32; 1024],
-    memory: &mut [u32; 2048],
-    addresses: &mut [u32; 64],
-    values: &mut [u32; 64],
-) -> io::Result<Setting> {
-    let budget = wide(number(rt)?);
-    let old_registers = *registers;
-    let old_memory = *memory;
-    let old_addresses = *addresses;
-    let old_values = *values;
-    let r = run_lent(
-        s, image, inputs, registers, memory, addresses, values, budget,
+pub fn step_case(rt: &impl Print, s: &mut Setting, lists: &mut Lists) -> io::Result<()> {
+    let before = *lists;
+    let r = machine::step(
+        s.config,
+        lent(&lists.image, s.image),
+        lent(&lists.inputs, s.inputs),
+        s.machine,
+        lent_mut(&mut lists.registers, s.registers),
+        lent_mut(&mut lists.memory, s.memory),
+        lent_mut(&mut lists.addresses, s.addresses),
+        lent_mut(&mut lists.values, s.values),
     );
-    let after = r.machine;
-    print::put_run(rt, r.number, r.steps, r.cycles)?;
-    print::put_machine(rt, after)?;
-    print::put_changes(rt, b"; registers", &old_registers, registers)?;
-    print::put_changes(rt, b"; data", &old_memory, memory)?;
-    print::put_changes(rt, b"; addresses", &old_addresses, addresses)?;
-    print::put_changes(rt, b"; values", &old_values, values)?;
-    println!(rt)?;
-    Ok(s.with_machine(after))
+    let (number, cycles) = match r {
+        Ok(step) => {
+            s.machine = step.after;
+            (0, step.cycles)
+        }
+        Err(stop) => (stop.number(), 0),
+    };
+    print!(rt; "step {number:x} {cycles:x}")?;
+    put_machine(rt, s.machine)?;
+    lists.put_changes(rt, &before)
+}
+
+// A run.
+pub fn run_case(rt: &(impl Input + Print), s: &mut Setting, lists: &mut Lists) -> io::Result<()> {
+    let budget = word(rt)? as u64;
+    let before = *lists;
+    let r = machine::run(
+        s.config,
+        lent(&lists.image, s.image),
+        lent(&lists.inputs, s.inputs),
+        s.machine,
+        lent_mut(&mut lists.registers, s.registers),
+        lent_mut(&mut lists.memory, s.memory),
+        lent_mut(&mut lists.addresses, s.addresses),
+        lent_mut(&mut lists.values, s.values),
+        budget,
+    );
+    s.machine = r.after;
+    print!(rt; "run {:x} {:x} {:x}", r.number(), r.steps, r.cycles)?;
+    put_machine(rt, r.after)?;
+    lists.put_changes(rt, &before)
 }

@@ -1,5 +1,0 @@
--- `left` falls at each turn.
-use Rattle.assembler_cases.proofs.input.echo_line.Given as goal
-
-abbrev pub decreases-loop-left : goal.decreases-loop-left
-decreases-loop-left g l = l.left
