@@ -1,9 +1,10 @@
 // Writing a page, and reading a file, so that a read that fails is told from the file's end.
 #![tactic(auto)]
 
-ghost use Rattle.std.specs.Prelude.{◌↔◌, ◌<◌, IfOk, IsErrOf, length, take};
+ghost use Rattle.std.specs.Prelude.{◌↔◌, ◌<◌, IfErr, IfOk, IsErrOf, length, take};
 ghost use Rattle.std.specs.Io.KnownBytes.{Consumes, IsAtEnd};
 ghost use Rattle.files.specs.Counts.{IsPrefixLen};
+ghost use Rattle.files.specs.Failures.{bytes_before};
 
 use std::env::FillError;
 use std::fs::File;
@@ -17,8 +18,10 @@ pub const NAME_BYTES: usize = 4096;
 // Why a program ends without an answer.
 #[derive(Drop)]
 pub enum Failure<'a> {
-    // What could not be opened, read or written, as the caller names it, and why.
+    // What could not be opened or written, as the caller names it, and why.
     Io(&'a str, io::Error),
+    // What could not be read to its end, how many bytes of it were read before that, and why.
+    Read(&'a str, usize, io::Error),
     // A name that is no UTF-8 cannot be opened.
     Name,
     // The answer has no room on its page.
@@ -31,6 +34,7 @@ impl fmt::Display for Failure<'_> {
     fn fmt<W: fmt::Write>(&self, f: &mut fmt::Formatter<W>) -> fmt::Result {
         match self {
             Failure::Io(name, why) => write!(f, "{name}: {why}"),
+            Failure::Read(name, _, why) => write!(f, "{name}: {why}"),
             Failure::Name => write!(f, "a file cannot be opened whose name is no UTF-8"),
             Failure::Room => write!(f, "the answer has no room on its page"),
             Failure::Usage(text) => write!(f, "{text}"),
@@ -47,13 +51,14 @@ pub fn read_all<'a, R: Read>(
     ensures in_bounds { IfOk result (λ n. IsPrefixLen n to.new) }
     ensures bytes { IfOk result (λ n. Consumes (R.remaining from.old) (R.remaining from.new) (take n to.new)) }
     ensures end { IfOk result (λ n. n < length to.new → IsAtEnd (R.remaining from.new)) }
+    ensures failed { IfErr result (λ why. IsPrefixLen (bytes_before why) to.new) }
 {
     let mut done = 0;
     while done < to.len() {
         match from.read(&mut to[done..]) {
             Ok(0) => break,
             Ok(n) => done += n,
-            Err(why) => return Err(Failure::Io(name, why)),
+            Err(why) => return Err(Failure::Read(name, done, why)),
         }
     }
     Ok(done)
@@ -61,7 +66,8 @@ pub fn read_all<'a, R: Read>(
 
 // Reads the named file.
 pub fn read_file<'a>(rt: &impl Files, path: &'a [u8], to: &mut [u8]) -> Result<usize, Failure<'a>>
-    ensures { IfOk result (λ n. IsPrefixLen n to.new) }
+    ensures in_bounds { IfOk result (λ n. IsPrefixLen n to.new) }
+    ensures failed { IfErr result (λ why. IsPrefixLen (bytes_before why) to.new) }
 {
     let Ok(name) = str::from_utf8(path) else {
         return Err(Failure::Name);

@@ -5,7 +5,8 @@ use mathlib.Core.List.{List}
 use borrow.Author.Tests.{le-leb, lt-leb}
 use lib.ListN.{length}
 use Rattle.laws.specs.Choice.{pick}
-use Rattle.std.proofs.Common.{Result, Ok, Err}
+use Rattle.std.proofs.Common.{Result, Ok, Err, Option}
+use Rattle.std.specs.Result.{result_ok}
 use Rattle.words.specs.declared.Config.{Config}
 use Rattle.image.specs.declared.Refusal as unloaded
 use Rattle.image.specs.Answers.{load_answer}
@@ -13,7 +14,7 @@ use Rattle.image.specs.Claims.{Loads}
 use Rattle.image.specs.Loading.{Load as Loading}
 use Rattle.image.proofs.Answers.{numbered}
 use Rattle.opening.specs.declared.Refusal.TheVariants.{TooLong, Load}
-use Rattle.opening.specs.Opening.{file_limit, number_of, open_of, Answers}
+use Rattle.opening.specs.Opening.{file_limit, number_of, open_of, refused_config, Answers}
 
 too_long : (bytes n : ℕ) → file_limit < bytes → 2 ≡ number_of bytes n
 unfolding number_of pick
@@ -28,13 +29,19 @@ unfolding load_answer
 image_left (Ok c) after = refl
 image_left (Err why) after = refl
 
+config_left : (r : Result Config unloaded.Refusal) (after : List ℕ) → refused_config (TooLong (result_ok r)) ≡ (load_answer r after).config
+unfolding load_answer
+config_left (Ok c) after = refl
+config_left (Err why) after = refl
+
 module _ (f image after : List ℕ) where
-  pub is_too_long : (r : Result Config unloaded.Refusal) → Loads f image r after → file_limit < length f → Answers (open_of f image) (Err TooLong) after
+  pub is_too_long : (r : Result Config unloaded.Refusal) (c : Option Config) → c ≡ result_ok r → Loads f image r after → file_limit < length f →
+      Answers (open_of f image) (Err (TooLong c)) after
   unfolding open_of
-  is_too_long r l h = record {
+  is_too_long r c e l h = record {
     number = too_long (length f) _ h;
-    refused = λ e. cc;
-    config = tt;
+    refused = λ k. cc;
+    config = rw e (config_left r after) ∙ ap (λ (x : Loading). x.config) l;
     image = sym (image_left r after) ∙ ap (λ (x : Loading). x.image) l;
   }
 
@@ -43,7 +50,7 @@ module _ (f image after : List ℕ) where
   is_refused why l h = record {
     number = ap (λ (x : Loading). x.number) l ∙ not_too_long (length f) _ h;
     refused = numbered why;
-    config = tt;
+    config = ap (λ (x : Loading). x.config) l;
     image = ap (λ (x : Loading). x.image) l;
   }
 

@@ -1,8 +1,8 @@
 -- Opening an image file: loading it, and "past 34,304 bytes of input" 2.
-use Rattle.std.specs.Prelude.{ℕ, ◌≤◌, ◌≡◌, ◌≢◌, List, leb, length, take, drop, Result, Ok, Err, IfOk, IfErr}
+use Rattle.std.specs.Prelude.{ℕ, ◌≤◌, ◌≡◌, ◌≢◌, List, leb, length, take, drop, Some, None, Result, Ok, Err, IfErr}
 use Rattle.laws.specs.Choice.{pick}
 use Rattle.words.specs.declared.Config.{Config}
-use Rattle.image.specs.Loading.{Load, load_of}
+use Rattle.image.specs.Loading.{Load, load_of, no_config}
 use Rattle.image.specs.Answers.{refusal_number as load_refusal_number}
 use Rattle.opening.specs.declared.Refusal.{Refusal}
 use Rattle.opening.specs.declared.Refusal.TheVariants.{TooLong, Load as Unloaded}
@@ -22,7 +22,7 @@ open_of f image =
 
 -- the documents' number
 abbrev pub refusal_number : Refusal → ℕ
-refusal_number TooLong = 2
+refusal_number (TooLong c) = 2
 refusal_number (Unloaded why) = load_refusal_number why
 
 -- the number of an answer, 0 for a pass
@@ -30,11 +30,22 @@ abbrev pub answer_number : Result Config Refusal → ℕ
 answer_number (Ok c) = 0
 answer_number (Err e) = refusal_number e
 
--- What a load answers and leaves: its number, which a refusal has and no pass, the configuration beside a pass, and the image.
+-- the configuration beside a refusal: of a file past the limit that loads all the same; else zeros
+abbrev pub refused_config : Refusal → Config
+refused_config (TooLong (Some c)) = c
+refused_config (TooLong None) = no_config
+refused_config (Unloaded why) = no_config
+
+-- the configuration of an answer
+abbrev pub answer_config : Result Config Refusal → Config
+answer_config (Ok c) = c
+answer_config (Err e) = refused_config e
+
+-- What a load answers and leaves: its number, which a refusal has and no pass, the configuration, beside a refusal too, and the image.
 pub record Answers (l : Load) (r : Result Config Refusal) (after : List ℕ) : Type 0 where
   pub number : answer_number r ≡ l.number
   pub refused : IfErr r (λ e. refusal_number e ≢ 0)
-  pub config : IfOk r (λ c. c ≡ l.config)
+  pub config : answer_config r ≡ l.config
   pub image : after ≡ l.image
 
 -- r of the words are those that n says, all where it says more

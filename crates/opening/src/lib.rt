@@ -16,8 +16,8 @@ pub const FILE_BYTES: usize = 34304;
 // Why a file is not opened.
 #[derive(Clone, Copy, Debug, PartialEq, Eq)]
 pub enum Refusal {
-    // It is longer than the file of `WORDS` words.
-    TooLong,
+    // It is longer than the file of `WORDS` words. Its configuration, where it loads all the same.
+    TooLong(Option<Config>),
     // What is wrong in it.
     Load(image::Refusal),
 }
@@ -28,7 +28,7 @@ impl Refusal {
         ensures { result ≡ refusal_number self }
     {
         match self {
-            Refusal::TooLong => 2,
+            Refusal::TooLong(_) => 2,
             Refusal::Load(why) => why.number(),
         }
     }
@@ -55,7 +55,7 @@ pub fn open(file: &[u8], image: &mut [u32]) -> Result<Config, Refusal>
 {
     let loaded = image::load(file, image);
     if FILE_BYTES < file.len() {
-        return Err(Refusal::TooLong);
+        return Err(Refusal::TooLong(loaded.ok()));
     }
     Ok(loaded?)
 }

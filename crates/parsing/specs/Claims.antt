@@ -1,14 +1,12 @@
 -- What the calls promise, and what shows that the definitions are the intended ones. The contracts cite these records.
-use Rattle.std.specs.Prelude.{ℕ, ◌+◌, ◌^◌, ◌≤◌, ◌<◌, ◌≡◌, Bool, List, [], ◌∷◌, ◌++◌, Option, Result, Ok, Err, MatchOption, is_some, unwrap_or, length}
+use Rattle.std.specs.Prelude.{ℕ, ◌+◌, ◌^◌, ◌≤◌, ◌<◌, ◌≡◌, Bool, List, [], ◌∷◌, Option, Result, Ok, Err, MatchOption, is_some, unwrap_or, length, drop}
 use Rattle.std.proofs.lemmas.List.Edits.{sets}
 use Rattle.laws.specs.Lists.{column}
 use Rattle.laws.specs.Test.{Below}
-use Rattle.syntax.specs.Lines.{newline}
 use Rattle.words.specs.declared.Config.{Config}
 use Rattle.parsing.specs.declared.BadEntry.{BadEntry}
 use Rattle.parsing.specs.declared.BadLine.{BadLine}
-use Rattle.parsing.specs.Numbers.{number_in}
-use Rattle.parsing.specs.Words.{Reading, good, bad, words_in, call, call_of, printed}
+use Rattle.parsing.specs.Words.{Reading, good, bad, before, words_in, call, call_of, printed}
 use Rattle.parsing.specs.Entries.{entries_of}
 use Rattle.parsing.specs.Generics.{Given, given, Gathered, all, malformed, generic_count, defaults, gather, gathered_in, generics_of}
 
@@ -36,10 +34,10 @@ pub record NamesGenerics (text : List ℕ) (r : Result Config BadEntry) : Type 0
   pub answer : r ≡ generics_of (gathered_in text)
   pub counted : EntryFromOne (gathered_in text)
 
--- the word of a line: its digits stand before the newline, which may be lacking
-pub record WordIn (line : List ℕ) (r : Option ℕ) : Type 0 where
-  pub ended : (digits : List ℕ) → line ≡ digits ++ (newline ∷ []) → r ≡ number_in 16 8 digits
-  pub last : ((digits : List ℕ) → line ≡ digits ++ (newline ∷ []) → ⊥) → r ≡ number_in 16 8 line
+-- the word of a text's first line, how many bytes that line has with its newline, which may be lacking, and that the text goes on behind it; or that line is
+-- in another form
+abbrev pub FirstWord : List ℕ → Option (ℕ × ℕ) → Type 0
+FirstWord t r = MatchOption r (words_in t ≡ bad 1) (λ p. (0 < p.1) × (p.1 ≤ length t) × (words_in t ≡ before p.0 (words_in (drop p.1 t))))
 
 -- what a text is heard to give, whose words go into the words lent; where a line is in another form, these are free
 pub data Outcome : Type 0 where

@@ -1,6 +1,6 @@
 // Generics by their names.
 ghost use Rattle.std.specs.Prelude.{◌≡◌};
-ghost use Rattle.parsing.specs.Generics.{names, config_of, place_of, given_by};
+ghost use Rattle.parsing.specs.Generics.{names, defaults, config_of, place_of, given_by};
 ghost use Rattle.parsing.specs.Claims.{Found, Gives, GathersAll, NamesGenerics, values_in};
 
 use crate::BadEntry;
@@ -74,6 +74,13 @@ fn config_of(v: &[Option<u32>; GENERICS]) -> Config
         copmsize: v[16].unwrap_or(0),
         yamdbg: v[18].unwrap_or(0),
     }
+}
+
+// The manual's defaults.
+pub fn default_config() -> Config
+    ensures { result ≡ config_of defaults }
+{
+    config_of(&[None; GENERICS])
 }
 
 // Puts the values that the entries of a text give.

@@ -1,16 +1,15 @@
 -- Laws of a run of stores and of digits, for every writer of digits.
 -- Assumes nothing.
 use mathlib.Core.Path.{◌≡◌, refl, sym, ap, ◌∙◌}
-use mathlib.Core.List.{List, [], ◌∷◌, ◌++◌}
+use mathlib.Core.List.{List, [], ◌∷◌}
 use Prim.Native.Nat.{ℕ, zero, suc, ◌+◌, ◌/◌, ◌%◌, ◌<◌, ◌≤◌}
 use mathlib.Core.Bool.{Bool}
+use native.Mathlib.Nat.{add-suc}
+use native.Mathlib.Numerals.{add-one}
 use native.Mathlib.Omega.{arith}
 use lib.Dec.{T}
-use lib.ListN.{length, get_or, set, take, drop, length-append}
-use lib.Seq.{sets, sets-eq, set_comm}
-use borrow.Rule.Slice.PartMut.{put_mid}
-use Rattle.std.proofs.lemmas.List.{take_all}
-use Rattle.std.proofs.lemmas.Slice.{put_mid-paste}
+use lib.ListN.{length, get_or, set, drop, length-append, drop_of_length-le}
+use lib.Seq.{sets, set_comm, drop-cons}
 use Rattle.laws.specs.Choice.{pick}
 use Rattle.laws.specs.Table.{every, at_every}
 use Rattle.syntax.specs.Digits.{spelled, digit, hex}
@@ -85,14 +84,11 @@ pub digits_done : (l p : List ℕ) (at k w m n : ℕ) → k ≡ 0 → sets l at 
 unfolding spelled written
 digits_done l p at k w m n z q = record { next = rw length_spelled; page = rw z at q }
 
--- a run of bytes stored at once
-pub bytes_put : (p s t : List ℕ) (at k : ℕ) → s ≡ t → k ≡ length t → at + length t ≤ length p → Wrote p at t (at + length t) (put_mid at k p s)
+-- bytes stored one by one
+pub byte_next : (l p bs : List ℕ) (at i : ℕ) → i < length bs → sets l (at + i) (drop i bs) ≡ sets p at bs →
+    sets (set l (at + i) (get_or bs i 0)) (at + (i + 1)) (drop (i + 1) bs) ≡ sets p at bs
+byte_next l p bs at i h q = rw (add-one, add-suc) (ap (sets l (at + i)) (sym (drop-cons bs i 0 h)) ∙ q)
+
+pub bytes_done : (l p bs : List ℕ) (at i : ℕ) → i ≤ length bs → length bs ≤ i → sets l (at + i) (drop i bs) ≡ sets p at bs → Wrote p at bs (at + length bs) l
 unfolding written
-bytes_put p s t at k e n h =
-    record {
-      next = refl;
-      page =
-          put_mid-paste at k p s t (length t) e (sym n) refl
-          ∙ ap (λ (u : List ℕ). take at p ++ u ++ drop (at + length t) p) (take_all (length t) t (omega arith))
-          ∙ sym (sets-eq t p at h);
-    }
+bytes_done l p bs at i k h q = record { next = refl; page = sym (ap (sets l (at + i)) (drop_of_length-le bs h)) ∙ q }

@@ -39,11 +39,13 @@ pub fn put_hex(page: &mut [u8], at: usize, w: usize, n: u64) -> usize
     at + w
 }
 
+// The bytes, one by one: `copy_from_slice` would have the archive for C ask for `memmove`, which it does without.
 pub fn put_bytes(page: &mut [u8], at: usize, bytes: &[u8]) -> usize
     requires { at + length bytes.now ≤ length page.old }
     ensures { Wrote page.old at bytes.now result page.new }
 {
-    let end = at + bytes.len();
-    page[at..end].copy_from_slice(bytes);
-    end
+    for i in 0..bytes.len() {
+        page[at + i] = bytes[i];
+    }
+    at + bytes.len()
 }

@@ -32,7 +32,7 @@ pub use tables::{base_table, class_table, limit_table, option_table, row_table};
 pub use writer::Writer;
 
 // A configuration of the core: the manual's generics under their names, in the order of document 01.
-#[derive(Clone, Copy, Default)]
+#[derive(Clone, Copy, Debug, Default, PartialEq, Eq)]
 pub struct Config {
     pub imwidth: u32,
     pub imsize: u32,

@@ -2,6 +2,7 @@
 ghost use Rattle.std.specs.Prelude.{◌≡◌, ◌↔◌, IfSome, IsNone, true, false};
 ghost use Rattle.laws.specs.Test.{test};
 ghost use Rattle.words.specs.Answers.{reading_of};
+ghost use Rattle.words.specs.Claims.{ClassesExact};
 ghost use Rattle.words.specs.Configs.{lawful};
 ghost use Rattle.words.specs.Facts.{facts_of};
 ghost use Rattle.words.specs.Lookup.{Limits, entry_table, uppers, lowers, below_lent};
@@ -32,10 +33,11 @@ pub struct Reader {
 }
 
 impl Reader {
-    // The reader of a lawful configuration.
+    // The reader of a lawful configuration. By the table that it reads by (`row`) the class of each value of bits 31-23 names exactly the rows that have it.
     pub fn of(c: Config) -> Option<Reader>
         ensures some { IfSome result (λ r. r.config ≡ c) }
         ensures none { IsNone result ↔ (test (lawful c) ≡ false) }
+        ensures classes { ClassesExact }
     {
         if !c.lawful() {
             return None;

@@ -5,7 +5,7 @@ use Rattle.opening.proofs.Opening.{is_too_long, is_refused, opens}
 use Rattle.opening.proofs.open.Goals as goal
 
 pub returns-then-file-gt-FILE_BYTES : goal.returns-then-file-gt-FILE_BYTES
-returns-then-file-gt-FILE_BYTES c = is_too_long _ _ _ _ c.load-loaded.ensures c.if-file-gt-FILE_BYTES.true
+returns-then-file-gt-FILE_BYTES c = is_too_long _ _ _ _ _ c.ok.ensures.value c.load-loaded.ensures c.if-file-gt-FILE_BYTES.true
 
 pub returns-in_err-loaded : goal.returns-in_err-loaded
 returns-in_err-loaded c =

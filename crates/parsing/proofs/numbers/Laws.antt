@@ -88,7 +88,7 @@ all_same : T (every 256 same)
 unfolding same hex_value pick
 all_same = tt
 
-digit_is : (b : ℕ) → b < 256 → min (digit_value b) 16 ≡ hex_value b
+pub digit_is : (b : ℕ) → b < 256 → min (digit_value b) 16 ≡ hex_value b
 unfolding same
 digit_is b h = eqb→eq (min (digit_value b) 16) (hex_value b) (at_every 256 same b all_same h)
 
