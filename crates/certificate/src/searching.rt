@@ -1,5 +1,6 @@
 // The search for the first address that breaks a rule.
-ghost use Rattle.std.specs.Prelude.{◌≡◌, not};
+ghost use Rattle.std.specs.Prelude.{◌≡◌, not, eqb};
+ghost use Rattle.laws.specs.Choice.{pick};
 ghost use Rattle.laws.specs.Test.{imp};
 ghost use Rattle.rules.specs.Marks.{mark_at, level_of};
 ghost use Rattle.rules.specs.Rules.{reads_port};
@@ -68,12 +69,23 @@ fn lowest_rule(sheet: &Sheet, a: u32) -> Option<Rule>
     None
 }
 
+// The lowest rule that an unused address breaks: address 0 must not be one.
+#[tactic(auto, unfolding(laws::specs::Choice::pick))]
+fn unused_rule(a: u32) -> Option<Rule>
+    ensures { rule_of result ≡ pick (eqb a 0) 1 0 }
+{
+    if a == 0 { Some(Rule::Start) } else { None }
+}
+
 // The lowest rule that address a breaks by itself or its successors. An unused address is not read.
 fn rule_at(sheet: &Sheet, a: u32) -> Option<Rule>
     ensures { rule_of result ≡ lowest sheet.now.reader.now.config sheet.now.image.now sheet.now.certificate.now a }
 {
     let x = sheet.mark(a as usize);
-    if x.is_used() && settled(sheet, a, x) {
+    if !x.is_used() {
+        return unused_rule(a);
+    }
+    if settled(sheet, a, x) {
         return None;
     }
     lowest_rule(sheet, a)

@@ -27,14 +27,20 @@ fn put_changes(rt: &impl Print, before: &[u32], after: &[u32]) -> io::Result<()>
     Ok(())
 }
 
+// The little-endian word at a place of the file, 0 past its end.
+fn word_at(file: &[u8], at: usize) -> u32 {
+    if at < file.len() / WORD_BYTES {
+        let from = at * WORD_BYTES;
+        return u32::from_le_bytes([file[from], file[from + 1], file[from + 2], file[from + 3]]);
+    }
+    0
+}
+
 // The words of the file that are not as before.
 fn put_file_changes(rt: &impl Print, before: &[u8], after: &[u8]) -> io::Result<()> {
-    let words = before
-        .chunks_exact(WORD_BYTES)
-        .zip(after.chunks_exact(WORD_BYTES));
-    for (at, (old, new)) in words.enumerate() {
-        if old != new {
-            let word = u32::from_le_bytes([new[0], new[1], new[2], new[3]]);
+    for at in 0..after.len() / WORD_BYTES {
+        let word = word_at(after, at);
+        if word_at(before, at) != word {
             print!(rt; " {at:x}={word:x}")?;
         }
     }

@@ -2,24 +2,22 @@
 use Prim.Native.Nat.{ℕ, ◌+◌, ◌<◌, ◌≤◌, min}
 use mathlib.Core.Path.{◌≡◌, refl, sym, ap, subst, ◌∙◌}
 use mathlib.Core.Bool.{Bool, true, false}
-use mathlib.Core.List.{List, [], ◌∷◌, ◌++◌, map}
+use mathlib.Core.List.{List, [], ◌∷◌, ◌++◌}
 use native.Mathlib.Numerals.{add-one}
-use native.Mathlib.Nat.{add-zero}
 use native.Mathlib.Omega.{arith}
 use borrow.Author.Tests.{leb-true, leb-false}
 use denote.Ref.{Bor}
 use lib.Dec.{leb}
-use lib.ListN.{length, get_or, drop, drop_of_length-le, length-append, length-map}
+use lib.ListN.{length, get_or, drop, drop_of_length-le, length-append}
 use lib.Seq.{drop-cons}
 use Rattle.std.proofs.Common.{Option, Some, None}
 use Rattle.std.proofs.iter.Yields.{fronts}
 use Rattle.std.proofs.lemmas.Iterator.{zips}
 use Rattle.std.proofs.lemmas.Slice.Zip.{zip_turn, zip_end}
 use Rattle.std.specs.declared.iter.Zip.{Zip}
-use Rattle.std.specs.declared.iter.Enumerate.{Enumerate}
 use Rattle.std.specs.declared.slice.Iter.{Iter}
 use Rattle.std.specs.Iterator.{Yields}
-use Rattle.std.specs.Iterator.Adapters.{zip_first, zip_second, enumerate_source, enumerate_count, enumerate_steps}
+use Rattle.std.specs.Iterator.Adapters.{zip_first, zip_second}
 use Rattle.std.specs.Slice.Iter.{iter_rest}
 use Rattle.printing.specs.declared.printer.Printer.{Printer}
 use Rattle.printing.specs.Printers.{Prints}
@@ -66,7 +64,7 @@ module _ {a : Printer} {whole : List ℕ} where
       let t : drop i ys ≡ y ∷ drop (i + 1) ys = from ys i y g ∙ ap (λ (z : B). z ∷ drop (i + 1) ys) (sym q) in
       goes (subst (λ (z : List B). Leads a whole b (zipped f i (x ∷ drop (i + 1) xs) z)) t (subst (λ (z : List A). Leads a whole b (zipped f i z (drop i ys))) s l)) k
 
-none_left : {A B : Type 0} (f : ℕ → A → B → List ℕ) (xs : List A) (ys : List B) (i : ℕ) → i ≡ min (length xs) (length ys) → zipped f i (drop i xs) (drop i ys) ≡ []
+none_left : {A B : Type 0} (f : ℕ → A → B → List ℕ) (xs : List A) (ys : List B) (i : ℕ) → min (length xs) (length ys) ≤ i → zipped f i (drop i xs) (drop i ys) ≡ []
 none_left f xs ys i e = go (leb (length xs) i) refl
   where
     no_second : {A B : Type 0} (g : ℕ → A → B → List ℕ) (j : ℕ) (us : List A) → zipped g j us [] ≡ []
@@ -78,6 +76,18 @@ none_left f xs ys i e = go (leb (length xs) i) refl
     go false h =
         let k = leb-false (length xs) i h in
         ap (zipped f i (drop i xs)) (drop_of_length-le ys (omega arith)) ∙ no_second f i (drop i xs)
+
+-- a loop over the places of both
+module _ {a : Printer} {whole : List ℕ} where
+  pub pairs_on : {A B : Type 0} (f : ℕ → A → B → List ℕ) (xs : List A) (ys : List B) (i : ℕ) (x : A) (y : B) {b c : Printer} → i < length xs → i < length ys →
+      Leads a whole b (zipped f i (drop i xs) (drop i ys)) → Prints b (f i (get_or xs i x) (get_or ys i y)) c →
+      Leads a whole c (zipped f (i + 1) (drop (i + 1) xs) (drop (i + 1) ys))
+  pairs_on {A} {B} f xs ys i x y {b} h g l k =
+      goes (subst (λ (z : List B). Leads a whole b (zipped f i (get_or xs i x ∷ drop (i + 1) xs) z)) (from ys i y g) (subst (λ (z : List A). Leads a whole b (zipped f i z (drop i ys))) (from xs i x h) l)) k
+
+  pub pairs_done : {A B : Type 0} (f : ℕ → A → B → List ℕ) (xs : List A) (ys : List B) (i : ℕ) {b : Printer} → min (length xs) (length ys) ≤ i →
+      Leads a whole b (zipped f i (drop i xs) (drop i ys)) → Prints a whole b
+  pairs_done f xs ys i h l = done (none_left f xs ys i h) l
 
 -- a loop over a `zip` of two slices
 module _ {A B : Type 0} {a : Printer} {whole : List ℕ} (f : ℕ → A → B → List ℕ) (xs : List A) (ys : List B) (yielded : List (Bor A × Bor B)) where
@@ -94,42 +104,6 @@ module _ {A B : Type 0} {a : Printer} {whole : List ℕ} (f : ℕ → A → B �
   pub zip_done : (s t u : Zip (Iter A) (Iter B)) (r : Option (Bor A × Bor B)) {b : Printer} → iter_rest (zip_first s) ≡ xs → iter_rest (zip_second s) ≡ ys →
       Yields (zips fronts fronts) s yielded t → r ≡ None → zips fronts fronts t r u →
       Leads a whole b (zipped f (length yielded) (drop (length yielded) xs) (drop (length yielded) ys)) → Prints a whole b
-  zip_done s t u r first second y is steps l = done (none_left f xs ys (length yielded) (zip_end xs ys yielded s t u r first second y is steps)) l
-
--- the same where the pairs are numbered
-
-pairs_of : {A S : Type 0} (steps : S → Option A → S → Type 0) (s t : Enumerate S) (xs : List (ℕ × A)) → Yields (enumerate_steps steps) s xs t →
-    Yields steps (enumerate_source s) (map (λ p. p.1) xs) (enumerate_source t) × (enumerate_count t ≡ enumerate_count s + length xs)
-pairs_of steps s t [] e = (ap enumerate_source e, simp add-zero (ap enumerate_count (sym e)))
-pairs_of steps s t (x ∷ xs) (j, e, rest) =
-    let b = pairs_of steps j t xs rest in
-    ((enumerate_source j, e.0, b.0), omega (arith, b.1, e.2))
-
-module _ {A B : Type 0} {a : Printer} {whole : List ℕ} (f : ℕ → A → B → List ℕ) (xs : List A) (ys : List B) (yielded : List (ℕ × (Bor A × Bor B))) where
-  pub numbered_on : (s t u : Enumerate (Zip (Iter A) (Iter B))) (r : Option (ℕ × (Bor A × Bor B))) {b c : Printer} → iter_rest (zip_first (enumerate_source s)) ≡ xs →
-      iter_rest (zip_second (enumerate_source s)) ≡ ys → enumerate_count s ≡ 0 → Yields (enumerate_steps (zips fronts fronts)) s yielded t →
-      (p : ℕ × (Bor A × Bor B)) → r ≡ Some p → enumerate_steps (zips fronts fronts) t r u →
-      Leads a whole b (zipped f (length yielded) (drop (length yielded) xs) (drop (length yielded) ys)) → Prints b (f p.0 p.1.0.now p.1.1.now) c →
-      Leads a whole c (zipped f (length (yielded ++ p ∷ [])) (drop (length (yielded ++ p ∷ [])) xs) (drop (length (yielded ++ p ∷ [])) ys))
-  numbered_on s t u r {b} {c} first second start y p is steps l k =
-      let z : enumerate_steps (zips fronts fronts) t (Some p) u = subst (λ v. enumerate_steps (zips fronts fronts) t v u) is steps in
-      let q = pairs_of (zips fronts fronts) s t yielded y in
-      let n : length (map (λ v. v.1) yielded) ≡ length yielded = length-map yielded (λ v. v.1) in
-      let turn = zip_turn xs ys (map (λ v. v.1) yielded) (enumerate_source s) (enumerate_source t) (enumerate_source u) (Some p.1) first second q.0 p.1 refl z.0 in
-      let number : p.0 ≡ length yielded = omega (arith, z.1, q.1, start) in
-      let long : length yielded + 1 ≡ length (yielded ++ p ∷ []) = sym (length-append yielded (p ∷ [])) in
-      let put : Prints b (f (length yielded) p.1.0.now p.1.1.now) c = subst (λ (m : ℕ). Prints b (f m p.1.0.now p.1.1.now) c) number k in
-      subst (λ (m : ℕ). Leads a whole c (zipped f m (drop m xs) (drop m ys))) long
-      (pair_on f xs ys (length yielded) p.1.0.now p.1.1.now (subst (λ (m : ℕ). m < length xs) n turn.0) (subst (λ (m : ℕ). m < length ys) n turn.1)
-      (subst (λ (m : ℕ). p.1.0.now ≡ get_or xs m p.1.0.now) n (turn.2 _)) (subst (λ (m : ℕ). p.1.1.now ≡ get_or ys m p.1.1.now) n (turn.3 _)) l put)
-
-  pub numbered_done : (s t u : Enumerate (Zip (Iter A) (Iter B))) (r : Option (ℕ × (Bor A × Bor B))) {b : Printer} → iter_rest (zip_first (enumerate_source s)) ≡ xs →
-      iter_rest (zip_second (enumerate_source s)) ≡ ys → Yields (enumerate_steps (zips fronts fronts)) s yielded t → r ≡ None →
-      enumerate_steps (zips fronts fronts) t r u →
-      Leads a whole b (zipped f (length yielded) (drop (length yielded) xs) (drop (length yielded) ys)) → Prints a whole b
-  numbered_done s t u r first second y is steps l =
-      let z : enumerate_steps (zips fronts fronts) t None u = subst (λ v. enumerate_steps (zips fronts fronts) t v u) is steps in
-      let q = pairs_of (zips fronts fronts) s t yielded y in
-      let n : length (map (λ v. v.1) yielded) ≡ length yielded = length-map yielded (λ v. v.1) in
-      let all = zip_end xs ys (map (λ v. v.1) yielded) (enumerate_source s) (enumerate_source t) (enumerate_source u) None first second q.0 refl z.0 in
-      done (none_left f xs ys (length yielded) (sym n ∙ all)) l
+  zip_done s t u r first second y is steps l =
+      let all = zip_end xs ys yielded s t u r first second y is steps in
+      done (none_left f xs ys (length yielded) (omega (arith, all))) l

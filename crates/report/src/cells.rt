@@ -108,7 +108,7 @@ fn put_cell_change(p: &mut Printer, mark: &[u8], d: usize, w: usize, i: usize, x
 pub fn put_cell_changes(p: &mut Printer, mark: &[u8], d: usize, w: usize, old: &[u32], new: &[u32])
     ensures { Prints p.old (cell_changes mark.now d w 0 old.now new.now) p.new }
 {
-    for (i, (x, y)) in old.iter().zip(new).enumerate() {
-        put_cell_change(p, mark, d, w, i, *x, *y);
+    for i in 0..old.len().min(new.len()) {
+        put_cell_change(p, mark, d, w, i, old[i], new[i]);
     }
 }

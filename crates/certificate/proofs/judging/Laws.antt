@@ -1,7 +1,7 @@
 -- The eight rules at one address, as the code asks them.
 -- Assumes nothing.
 use Prim.Native.Nat.{ℕ, ◌+◌}
-use mathlib.Core.Path.{◌≡◌}
+use mathlib.Core.Path.{◌≡◌, refl}
 use mathlib.Core.Bool.{Bool, true, false, not}
 use mathlib.Core.List.{List}
 use Rattle.std.proofs.Common.{Ok, Err}
@@ -39,6 +39,18 @@ no_port c image next w Unlawful output o ew er = rw (o, ← ew, ← er)
 no_port c image next w NoRow output o ew er = rw (o, ← ew, ← er)
 no_port c image next w Unavailable output o ew er = rw (o, ← ew, ← er)
 no_port c image next w OutOfRange output o ew er = rw (o, ← ew, ← er)
+
+-- An unused address: rules 2 to 8 do not bind it
+
+unused_first : (b : Bool) → pick {A = ℕ} b 1 0 ≡ pick (imp b false) 0 1
+unfolding pick
+unused_first true = refl
+unused_first false = refl
+
+pub unused_address : (c : Config) (image certificate : List ℕ) (a x r : ℕ) → x ≡ mark_at certificate a → used x ≡ false → r ≡ pick (eqb a 0) 1 0 →
+    r ≡ lowest c image certificate a
+unfolding rules pick
+unused_address c image certificate a x r ex u er = rw (er, ← ex, u) (unused_first (eqb a 0))
 
 -- The lowest rule that an address breaks, where the lower ones are kept: r1 to r8 is what the code has of each
 
